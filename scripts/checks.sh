@@ -1,0 +1,25 @@
+#!/usr/bin/env bash
+# Checks of the repository's own, beside the proofs. A check whose tool or file is missing is skipped.
+cd "$(dirname "$0")/.." || exit 2
+failed=0
+
+fail() {
+    printf 'checks: %s\n' "$1" >&2
+    failed=1
+}
+
+# The file HANDLES is one line that never changes.
+[ "$(cat HANDLES 2>/dev/null)" = 'Handles allowed: none.' ] || fail 'HANDLES is not its one line'
+
+# Each crate of crates.txt has a folder, and each crate's folder stands in crates.txt.
+while IFS=: read -r name _; do
+    name=${name%% *}
+    case "$name" in ''|'#'*) continue ;; esac
+    [ -d "crates/$name" ] || fail "crates/$name is listed and missing"
+done <crates.txt
+for folder in crates/*/; do
+    name=$(basename "$folder")
+    grep -q "^$name\( [^:]*\)\?:" crates.txt || fail "crates/$name is not listed in crates.txt"
+done
+
+exit "$failed"
