@@ -1,0 +1,143 @@
+//! Files and standard streams as a desk, which tells nothing of what they hold: the trusted edge of the program.
+ghost use Rattle.std.specs.Prelude.{◌≡◌, ◌+◌, ◌-◌, ◌^◌, min};
+ghost use Rattle.brep_desk.specs.Shown.{tells_nothing, shows_nothing};
+
+use brep_desk::{Chan, Desk, Failed};
+use std::fs;
+use std::fs::File;
+use std::io::{Read, Stdin, Stdout, Write};
+
+/// What a channel is open for.
+#[derive(Drop)]
+enum Slot {
+    Closed,
+    Input,
+    Output,
+    Reading(File),
+    Writing(File),
+}
+
+/// Files by their paths. The name `-` is standard input where it is read, and standard output where it is written. Each
+/// error of the system counts as a fault.
+#[derive(Drop)]
+pub struct DiskDesk<'a> {
+    rt: &'a HostRuntime,
+    input: Stdin,
+    output: Stdout,
+    slots: Vec<Slot>,
+    faults: u64,
+}
+
+impl<'a> DiskDesk<'a> {
+    /// A desk with no channel open and no fault counted.
+    pub fn new(rt: &'a HostRuntime) -> DiskDesk<'a> {
+        DiskDesk {
+            rt,
+            input: rt.stdin(),
+            output: rt.stdout(),
+            slots: Vec::new(rt.alloc()),
+            faults: 0,
+        }
+    }
+}
+
+/// One fault more; the count stays at its last value.
+fn raised(faults: u64) -> u64
+    ensures { result ≡ min (faults + 1) (2 ^ 64 - 1) }
+{
+    faults.saturating_add(1)
+}
+
+impl Desk for DiskDesk<'_> {
+    ghost faults = { λ d. d.faults };
+
+    ghost tells = { tells_nothing };
+
+    ghost shows = { λ _. shows_nothing };
+
+    ghost told = { record { held = λ h. h; left = λ h. h; written = λ h. h; ended = λ h. h; strays = λ h. h } };
+
+    fn begin_read(&mut self, name: &str) -> Result<Chan, Failed> {
+        let number = self.slots.len() as u64;
+        let slot = if name == "-" {
+            Slot::Input
+        } else {
+            match fs::open(self.rt, name) {
+                Ok(file) => Slot::Reading(file),
+                Err(_) => {
+                    self.faults = raised(self.faults);
+                    return Err(Failed);
+                }
+            }
+        };
+        if self.slots.push(slot).is_err() {
+            self.faults = raised(self.faults);
+            return Err(Failed);
+        }
+        Ok(Chan { number })
+    }
+
+    fn read(&mut self, c: Chan, buf: &mut [u8]) -> Result<usize, Failed> {
+        let answer = match self.slots.get_mut(c.number as usize) {
+            Some(Slot::Input) => self.input.read(buf).ok(),
+            Some(Slot::Reading(file)) => file.read(buf).ok(),
+            _ => None,
+        };
+        if answer.is_none() {
+            self.faults = raised(self.faults);
+        }
+        answer.ok_or(Failed)
+    }
+
+    fn begin_write(&mut self, name: &str) -> Result<Chan, Failed> {
+        let number = self.slots.len() as u64;
+        let slot = if name == "-" {
+            Slot::Output
+        } else {
+            match fs::create(self.rt, name) {
+                Ok(file) => Slot::Writing(file),
+                Err(_) => {
+                    self.faults = raised(self.faults);
+                    return Err(Failed);
+                }
+            }
+        };
+        if self.slots.push(slot).is_err() {
+            self.faults = raised(self.faults);
+            return Err(Failed);
+        }
+        Ok(Chan { number })
+    }
+
+    fn write(&mut self, c: Chan, bytes: &[u8]) -> Result<usize, Failed> {
+        let answer = match self.slots.get_mut(c.number as usize) {
+            Some(Slot::Output) => self.output.write(bytes).ok(),
+            Some(Slot::Writing(file)) => file.write(bytes).ok(),
+            _ => None,
+        };
+        match answer {
+            Some(count) if count > 0 || bytes.is_empty() => Ok(count),
+            _ => {
+                self.faults = raised(self.faults);
+                Err(Failed)
+            }
+        }
+    }
+
+    fn end(&mut self, c: Chan) -> Result<(), Failed> {
+        match self.slots.get_mut(c.number as usize) {
+            None | Some(Slot::Closed) => {
+                self.faults = raised(self.faults);
+                Err(Failed)
+            }
+            Some(slot) => {
+                *slot = Slot::Closed;
+                Ok(())
+            }
+        }
+    }
+
+    fn faults(&self) -> u64 {
+        self.faults
+    }
+}

@@ -1,0 +1,106 @@
+-- What a list of channels shows at a number, after one was added, and after one was changed.
+use Rattle.std.proofs.Common.{◌≡◌, ◌≢◌, ℕ, zero, suc, ◌+◌, ◌<◌, ◌≤◌, List, [], ◌∷◌, ◌++◌, length, drop, set, get_or, refl, sym, ap, subst, ◌∙◌, arith, drop-drop}
+use Rattle.std.proofs.Math.Path.{fun_ext}
+use Rattle.brep_desk.specs.Shown.{closed, ChangesOnly}
+use Rattle.brep_desk.specs.declared.channels.Channel.{Channel}
+use Rattle.brep_desk.specs.declared.channels.Channel.TheVariants as channels
+use Rattle.brep_desk.specs.Kept.{of_channel, left_of, use_of, left_in, use_in, IsNotReading, IsNotWriting}
+
+pub of_channel-past : {A : Type 0} (f : Channel → A) (d : A) (cs : List Channel) (k : ℕ) → length cs ≤ k → of_channel f d cs k ≡ d
+of_channel-past f d [] k le = refl
+of_channel-past f d (c ∷ cs) zero le = absurd (omega arith)
+of_channel-past f d (c ∷ cs) (suc k) le = of_channel-past f d cs k (omega arith)
+
+get_at : {A : Type 0} (f : Channel → A) (d : A) (cs : List Channel) (k : ℕ) (x : Channel) → k < length cs → of_channel f d cs k ≡ f (get_or cs k x)
+get_at f d [] k x lt = absurd (omega arith)
+get_at f d (c ∷ cs) zero x lt = refl
+get_at f d (c ∷ cs) (suc k) x lt = get_at f d cs k x (omega arith)
+
+-- the channel that an index refers to
+pub of_channel-get : {A : Type 0} (f : Channel → A) (d : A) (cs : List Channel) (k : ℕ) (x y : Channel) → k < length cs → get_or cs k x ≡ y → of_channel f d cs k ≡ f y
+of_channel-get f d cs k x y lt is = get_at f d cs k x lt ∙ ap f is
+
+-- the channel that an index gave
+pub of_channel-at : {A : Type 0} (f : Channel → A) (d : A) (cs : List Channel) (k : ℕ) (x y : Channel) → k < length cs → x ≡ get_or cs k x → x ≡ y → of_channel f d cs k ≡ f y
+of_channel-at f d cs k x y lt got is = get_at f d cs k x lt ∙ ap f (sym got ∙ is)
+
+pushed_here : {A : Type 0} (f : Channel → A) (d : A) (cs : List Channel) (c : Channel) → of_channel f d (cs ++ c ∷ []) (length cs) ≡ f c
+pushed_here f d [] c = refl
+pushed_here f d (x ∷ cs) c = pushed_here f d cs c
+
+pushed_other : {A : Type 0} (f : Channel → A) (d : A) (cs : List Channel) (c : Channel) (k : ℕ) → k ≢ length cs → of_channel f d (cs ++ c ∷ []) k ≡ of_channel f d cs k
+pushed_other f d [] c zero other = absurd (other refl)
+pushed_other f d [] c (suc k) other = refl
+pushed_other f d (x ∷ cs) c zero other = refl
+pushed_other f d (x ∷ cs) c (suc k) other = pushed_other f d cs c k (λ e. other (ap suc e))
+
+pushed_at : {A : Type 0} (f : Channel → A) (d : A) (cs : List Channel) (c : Channel) → ChangesOnly (of_channel f d cs) (of_channel f d (cs ++ c ∷ [])) (length cs) (f c)
+pushed_at f d cs c = record { here = pushed_here f d cs c; others = λ k other. pushed_other f d cs c k other }
+
+pub of_channel-pushed : {A : Type 0} (f : Channel → A) (d : A) (cs new : List Channel) (c : Channel) (k : ℕ) → new ≡ cs ++ c ∷ [] → k ≡ length cs → ChangesOnly (of_channel f d cs) (of_channel f d new) k (f c)
+of_channel-pushed f d cs new c k is at = rw (is, at) (pushed_at f d cs c)
+
+set_here : {A : Type 0} (f : Channel → A) (d : A) (cs : List Channel) (i : ℕ) (c : Channel) → i < length cs → of_channel f d (set cs i c) i ≡ f c
+set_here f d [] i c lt = absurd (omega arith)
+set_here f d (x ∷ cs) zero c lt = refl
+set_here f d (x ∷ cs) (suc i) c lt = set_here f d cs i c (omega arith)
+
+set_other : {A : Type 0} (f : Channel → A) (d : A) (cs : List Channel) (i : ℕ) (c : Channel) (k : ℕ) → k ≢ i → of_channel f d (set cs i c) k ≡ of_channel f d cs k
+set_other f d [] i c k other = refl
+set_other f d (x ∷ cs) zero c zero other = absurd (other refl)
+set_other f d (x ∷ cs) zero c (suc k) other = refl
+set_other f d (x ∷ cs) (suc i) c zero other = refl
+set_other f d (x ∷ cs) (suc i) c (suc k) other = set_other f d cs i c k (λ e. other (ap suc e))
+
+pub of_channel-set : {A : Type 0} (f : Channel → A) (d : A) (cs : List Channel) (i : ℕ) (c : Channel) → i < length cs → ChangesOnly (of_channel f d cs) (of_channel f d (set cs i c)) i (f c)
+of_channel-set f d cs i c lt = record { here = set_here f d cs i c lt; others = λ k other. set_other f d cs i c k other }
+
+set_kept_at : {A : Type 0} (f : Channel → A) (d : A) (cs : List Channel) (i : ℕ) (c : Channel) → of_channel f d cs i ≡ f c → (k : ℕ) → of_channel f d (set cs i c) k ≡ of_channel f d cs k
+set_kept_at f d [] i c same k = refl
+set_kept_at f d (x ∷ cs) zero c same zero = sym same
+set_kept_at f d (x ∷ cs) zero c same (suc k) = refl
+set_kept_at f d (x ∷ cs) (suc i) c same zero = refl
+set_kept_at f d (x ∷ cs) (suc i) c same (suc k) = set_kept_at f d cs i c same k
+
+-- a change that keeps the property keeps it at each number
+pub of_channel-set_kept : {A : Type 0} (f : Channel → A) (d : A) (cs : List Channel) (i : ℕ) (c : Channel) → of_channel f d cs i ≡ f c → of_channel f d (set cs i c) ≡ of_channel f d cs
+of_channel-set_kept f d cs i c same = fun_ext (set_kept_at f d cs i c same)
+
+pub left_in-read : (cs : List Channel) (k : ℕ) (name bytes : List ℕ) (at count : ℕ) → k < length cs → left_in cs k ≡ drop at bytes → ChangesOnly (left_in cs) (left_in (set cs k (channels.Reading name bytes (at + count)))) k (drop count (left_in cs k))
+left_in-read cs k name bytes at count lt is =
+    let value : drop (at + count) bytes ≡ drop count (left_in cs k) = sym (drop-drop count at bytes) ∙ ap (λ (x : List ℕ). drop count x) (sym is) in
+    subst (λ (v : List ℕ). ChangesOnly (left_in cs) (left_in (set cs k (channels.Reading name bytes (at + count)))) k v) value (of_channel-set left_of [] cs k _ lt)
+
+not_reading : (c : Channel) → ((name bytes : List ℕ) (at : ℕ) → c ≡ channels.Reading name bytes at → ⊥) → IsNotReading (use_of c)
+not_reading channels.Closed no_reading = tt
+not_reading (channels.Reading name bytes at) no_reading = no_reading name bytes at refl
+not_reading (channels.Writing name) no_reading = tt
+
+pub IsNotReading-get : (cs : List Channel) (k : ℕ) (x : Channel) → k < length cs → ((name bytes : List ℕ) (at : ℕ) → get_or cs k x ≡ channels.Reading name bytes at → ⊥) → IsNotReading (use_in cs k)
+IsNotReading-get cs k x lt other = subst IsNotReading (sym (get_at use_of closed cs k x lt)) (not_reading (get_or cs k x) other)
+
+not_writing : (c : Channel) → ((name : List ℕ) → c ≡ channels.Writing name → ⊥) → IsNotWriting (use_of c)
+not_writing channels.Closed no_writing = tt
+not_writing (channels.Reading name bytes at) no_writing = tt
+not_writing (channels.Writing name) no_writing = no_writing name refl
+
+pub IsNotWriting-at : (cs : List Channel) (k : ℕ) (c : Channel) → k < length cs → c ≡ get_or cs k c → ((name : List ℕ) → c ≡ channels.Writing name → ⊥) → IsNotWriting (use_in cs k)
+IsNotWriting-at cs k c lt got other = subst IsNotWriting (sym (of_channel-at use_of closed cs k c c lt got refl)) (not_writing c other)
+
+pub use_of-open : (c : Channel) → (c ≡ channels.Closed → ⊥) → use_of c ≢ closed
+use_of-open channels.Closed other is = other refl
+use_of-open (channels.Reading name bytes at) other is = absurd cc
+use_of-open (channels.Writing name) other is = absurd cc
+
+pub of_channel-closed : {A : Type 0} (f : Channel → A) (d : A) (cs : List Channel) (i : ℕ) (c : Channel) → i < length cs → c ≡ channels.Closed → ChangesOnly (of_channel f d cs) (of_channel f d (set cs i c)) i (f channels.Closed)
+of_channel-closed f d cs i c lt is = subst (λ (x : Channel). ChangesOnly (of_channel f d cs) (of_channel f d (set cs i c)) i (f x)) is (of_channel-set f d cs i c lt)
+
+pushed_kept_at : {A : Type 0} (f : Channel → A) (d : A) (cs : List Channel) (c : Channel) → f c ≡ d → (k : ℕ) → of_channel f d (cs ++ c ∷ []) k ≡ of_channel f d cs k
+pushed_kept_at f d [] c none zero = none
+pushed_kept_at f d [] c none (suc k) = refl
+pushed_kept_at f d (x ∷ cs) c none zero = refl
+pushed_kept_at f d (x ∷ cs) c none (suc k) = pushed_kept_at f d cs c none k
+
+-- a channel without the property, added, shows as before at each number
+pub of_channel-pushed_kept : {A : Type 0} (f : Channel → A) (d : A) (cs new : List Channel) (c : Channel) → new ≡ cs ++ c ∷ [] → f c ≡ d → of_channel f d new ≡ of_channel f d cs
+of_channel-pushed_kept f d cs new c is none = ap (λ (x : List Channel). of_channel f d x) is ∙ fun_ext (pushed_kept_at f d cs c none)

@@ -1,0 +1,15 @@
+use Rattle.std.proofs.Common.{◌≡◌, List, ℕ, length, ◌-◌, ◌≤◌}
+use Rattle.brep_desk.specs.Shown.{writing}
+use Rattle.brep_desk.specs.Strays.{KeepsStrays}
+use Rattle.brep_desk.specs.Whole.{Appended}
+use Rattle.brep_desk.proofs.whole.write_all.Given as goal
+
+abbrev pub invariant-loop-taken : goal.invariant-loop-taken
+invariant-loop-taken g l = record {
+  later : g.D.Desk.faults l.initial.desk ≤ g.D.Desk.faults l.desk;
+  so_far : Appended g.D.Desk.tells (g.D.Desk.shows l.initial.desk) (g.D.Desk.shows l.desk) l.c.number l.bytes l.taken;
+  strays : (name : List ℕ) → (g.D.Desk.shows l.initial.desk).opened l.c.number ≡ writing name → KeepsStrays g.D.Desk.tells (g.D.Desk.shows l.initial.desk) (g.D.Desk.shows l.desk);
+}
+
+abbrev pub decreases-loop-taken : goal.decreases-loop-taken
+decreases-loop-taken g l = length l.bytes - l.taken

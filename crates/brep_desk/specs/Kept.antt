@@ -1,0 +1,85 @@
+-- What files, outputs and channels that are kept in memory show.
+use Rattle.std.specs.Prelude.{◌≡◌, ℕ, zero, suc, Bool, true, false, if◌then◌else◌, nat_eq, IsTrue, List, [], ◌∷◌, drop, Option, Some, None, is_some}
+use Rattle.std.specs.Borrow.{Bor}
+use Rattle.std.specs.Cmp.Lexicographic.{pointwise}
+use Rattle.brep_desk.specs.Shown.{Use, closed, reading, writing, Shown}
+use Rattle.brep_desk.specs.declared.outputs.Output.{Output}
+use Rattle.brep_desk.specs.declared.channels.Channel.{Channel}
+use Rattle.brep_desk.specs.declared.channels.Channel.TheVariants as channels
+
+-- the bytes of the first file with the name
+abbrev pub held_in : List (List ℕ × List ℕ) → List ℕ → Option (List ℕ)
+held_in [] name = None
+held_in (f ∷ fs) name = if pointwise nat_eq f.0 name then Some f.1 else held_in fs name
+
+-- a property of the first output with the name, or what stands for none
+abbrev pub of_output : {A : Type 0} → (Output → A) → A → List Output → List ℕ → A
+of_output f d [] name = d
+of_output f d (o ∷ os) name = if pointwise nat_eq o.name name then f o else of_output f d os name
+
+abbrev pub bytes_of : Output → Option (List ℕ)
+bytes_of o = Some o.bytes
+
+abbrev pub is_ended : Output → Bool
+is_ended o = o.ended
+
+abbrev pub written_in : List Output → List ℕ → Option (List ℕ)
+written_in = of_output bytes_of None
+
+abbrev pub ended_in : List Output → List ℕ → Bool
+ended_in = of_output is_ended false
+
+abbrev pub left_of : Channel → List ℕ
+left_of channels.Closed = []
+left_of (channels.Reading name bytes at) = drop at bytes
+left_of (channels.Writing name) = []
+
+abbrev pub use_of : Channel → Use
+use_of channels.Closed = closed
+use_of (channels.Reading name bytes at) = reading name
+use_of (channels.Writing name) = writing name
+
+-- a property of the channel with the number, or what stands for none
+abbrev pub of_channel : {A : Type 0} → (Channel → A) → A → List Channel → ℕ → A
+of_channel f d [] k = d
+of_channel f d (c ∷ cs) zero = f c
+of_channel f d (c ∷ cs) (suc k) = of_channel f d cs k
+
+abbrev pub left_in : List Channel → ℕ → List ℕ
+left_in = of_channel left_of []
+
+abbrev pub use_in : List Channel → ℕ → Use
+use_in = of_channel use_of closed
+
+abbrev pub shown_by : List (List ℕ × List ℕ) → List Output → List Channel → ℕ → Shown
+shown_by files outputs channels count = record { held = held_in files; left = left_in channels; written = written_in outputs; ended = ended_in outputs; opened = use_in channels; strays = count }
+
+-- a reference to bytes, or none
+abbrev pub Shows : Option (Bor (List ℕ)) → Option (List ℕ) → Type 0
+Shows None told = told ≡ None
+Shows (Some b) told = told ≡ Some b.now
+
+-- the first output with the name stands at this place
+abbrev pub IsPlace : List Output → List ℕ → ℕ → Type 0
+IsPlace [] name i = ⊥
+IsPlace (o ∷ os) name zero = pointwise nat_eq o.name name ≡ true
+IsPlace (o ∷ os) name (suc i) = (pointwise nat_eq o.name name ≡ false) × IsPlace os name i
+
+-- there is an output with the name
+abbrev pub IsBegun : List Output → List ℕ → Type 0
+IsBegun outputs name = IsTrue (is_some (written_in outputs name))
+
+-- each channel that is open for writing has an output
+abbrev pub AllBegun : List Output → List Channel → Type 0
+AllBegun outputs channels = (k : ℕ) (name : List ℕ) → use_in channels k ≡ writing name → IsBegun outputs name
+
+-- what a channel is open for is not reading
+abbrev pub IsNotReading : Use → Type 0
+IsNotReading closed = Unit {0}
+IsNotReading (reading name) = ⊥
+IsNotReading (writing name) = Unit {0}
+
+abbrev pub IsNotWriting : Use → Type 0
+IsNotWriting closed = Unit {0}
+IsNotWriting (reading name) = Unit {0}
+IsNotWriting (writing name) = ⊥

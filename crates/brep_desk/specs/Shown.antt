@@ -1,0 +1,61 @@
+-- What a desk may tell of itself: what its names hold and were given, and what its channels are for.
+use Rattle.std.specs.Prelude.{◌≡◌, ◌≢◌, ℕ, Bool, true, false, IsTrue, List, [], Option, None}
+
+-- what a channel is open for, by the bytes of the name
+pub data Use : Type 0 where
+  closed : Use
+  reading : List ℕ → Use
+  writing : List ℕ → Use
+
+-- a name is its bytes, a channel its number
+pub record Shown : Type 0 where
+  -- the bytes that reading the name gives, if it is held
+  pub held : List ℕ → Option (List ℕ)
+  -- what is still to be read from a channel
+  pub left : ℕ → List ℕ
+  -- what was taken since writing of the name began, if it ever began
+  pub written : List ℕ → Option (List ℕ)
+  -- whether that writing was ended
+  pub ended : List ℕ → Bool
+  pub opened : ℕ → Use
+  -- how many stray calls were made: over a channel that is not open for them, of no bytes, or for a name that is not held
+  pub strays : ℕ
+
+-- which of these a desk tells; a desk that does not tell one shows the same of it at all times
+pub record Tells : Type 0 where
+  pub held : Bool
+  pub left : Bool
+  pub written : Bool
+  pub ended : Bool
+  pub opened : Bool
+  pub strays : Bool
+
+abbrev pub tells_all : Tells
+tells_all = record { held = true; left = true; written = true; ended = true; opened = true; strays = true }
+
+abbrev pub tells_nothing : Tells
+tells_nothing = record { held = false; left = false; written = false; ended = false; opened = false; strays = false }
+
+abbrev pub shows_nothing : Shown
+shows_nothing = record { held = λ _. None; left = λ _. []; written = λ _. None; ended = λ _. false; opened = λ _. closed; strays = 0 }
+
+-- a desk that tells one of them tells what goes with it
+pub record AreTold (t : Tells) : Type 0 where
+  pub held : IsTrue t.held → IsTrue t.left
+  pub left : IsTrue t.left → IsTrue t.opened
+  pub written : IsTrue t.written → IsTrue t.ended
+  pub ended : IsTrue t.ended → IsTrue t.opened
+  pub strays : IsTrue t.strays → IsTrue t.opened
+
+-- everything that is shown stays, strays apart
+pub record Same (old new : Shown) : Type 0 where
+  pub held : new.held ≡ old.held
+  pub left : new.left ≡ old.left
+  pub written : new.written ≡ old.written
+  pub ended : new.ended ≡ old.ended
+  pub opened : new.opened ≡ old.opened
+
+-- new is old with this value at one place
+pub record ChangesOnly {K A : Type 0} (old new : K → A) (place : K) (value : A) : Type 0 where
+  pub here : new place ≡ value
+  pub others : (k : K) → k ≢ place → new k ≡ old k

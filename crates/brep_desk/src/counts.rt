@@ -1,0 +1,54 @@
+//! What a desk in memory counts: its calls, its stray calls, its faults, and the faults for want of memory.
+ghost use Rattle.std.specs.Prelude.{◌≡◌, ◌≤◌};
+ghost use Rattle.brep_desk.specs.Causes.{raised, Rose};
+ghost use Rattle.brep_desk.specs.Counting.{short_after, strays_after};
+
+use crate::desk::Failed;
+
+/// Why a call of a desk in memory is refused.
+#[derive(Clone, Copy)]
+pub(crate) enum Refusal {
+    Fault,
+    NoMemory,
+}
+
+/// Each count stands still at the last u64.
+#[derive(Drop)]
+pub(crate) struct Counts {
+    pub(crate) calls: u64,
+    pub(crate) strays: u64,
+    pub(crate) faults: u64,
+    pub(crate) short: u64,
+}
+
+impl Counts {
+    /// The number of the call that begins, which may be a stray one.
+    pub(crate) fn next_call(&mut self, stray: bool) -> u64
+        ensures number { result ≡ raised self.old.calls }
+        ensures counted { self.new ≡ record self.old { calls = raised self.old.calls; strays = strays_after stray self.old.strays } }
+        ensures later { self.old.strays ≤ self.new.strays }
+        ensures enough { self.new.short ≡ self.old.short }
+    {
+        self.calls = self.calls.saturating_add(1);
+        if stray {
+            self.strays = self.strays.saturating_add(1);
+        }
+        self.calls
+    }
+
+    /// Counts a call that is refused.
+    pub(crate) fn refuse(&mut self, refusal: Refusal) -> Failed
+        ensures counted { self.new ≡ record self.old { faults = raised self.old.faults; short = short_after refusal self.old.short } }
+        ensures later { self.old.faults ≤ self.new.faults }
+        ensures rose { Rose self.old.faults self.new.faults }
+        ensures strays { self.new.strays ≡ self.old.strays }
+        ensures enough { refusal ≡ Refusal.Fault → self.new.short ≡ self.old.short }
+    {
+        self.faults = self.faults.saturating_add(1);
+        match refusal {
+            Refusal::Fault => {}
+            Refusal::NoMemory => self.short = self.short.saturating_add(1),
+        }
+        Failed
+    }
+}

@@ -1,0 +1,233 @@
+//! A desk in memory, which tells everything.
+ghost use Rattle.std.specs.Prelude.{◌<◌};
+ghost use Rattle.brep_desk.specs.Kept.{AllBegun};
+
+use crate::channels::{Channel, read};
+use crate::counts::{Counts, Refusal};
+use crate::desk::{Chan, Desk, Failed};
+use crate::kept::{begin_reading, begin_writing, end_channel, write_over};
+use crate::names::{Bytes, NameText};
+use crate::outputs::{Output, is_whole, written};
+use crate::strays::{stray_begin_read, stray_end, stray_read, stray_write};
+use std::alloc::Global;
+
+/// Files that are held in memory, and outputs that are written to it. The calls of the trait,
+/// but for `faults`, are numbered from 1, and those with given numbers fail. Stray calls count
+/// whether they fail or not.
+#[derive(Drop)]
+pub struct MemoryDesk {
+    alloc: Global,
+    files: Vec<(NameText, Bytes)>,
+    outputs: Vec<Output>,
+    channels: Vec<Channel>,
+    failing: Vec<u64>,
+    piece: usize,
+    counts: Counts,
+    ghost begun: { AllBegun outputs.items channels.items },
+    ghost some: { 0 < piece },
+}
+
+impl MemoryDesk {
+    ghost use Rattle.std.specs.Prelude.{◌≡◌, ◌<◌};
+    ghost use Rattle.brep_desk.specs.Kept.{Shows};
+    ghost use Rattle.brep_desk.specs.Memory.{Starts, shown_of, short_of};
+
+    /// A desk that holds the files, of two with one name the first. The calls whose numbers stand
+    /// in `failing` fail, and a read or a write moves at most `piece` bytes.
+    pub fn new(
+        alloc: Global,
+        files: Vec<(NameText, Bytes)>,
+        failing: Vec<u64>,
+        piece: usize,
+    ) -> MemoryDesk
+        requires { 0 < piece }
+        ensures { Starts result files.items failing.items piece }
+    {
+        MemoryDesk {
+            alloc,
+            files,
+            outputs: Vec::new(alloc),
+            channels: Vec::new(alloc),
+            failing,
+            piece,
+            counts: Counts {
+                calls: 0,
+                strays: 0,
+                faults: 0,
+                short: 0,
+            },
+        }
+    }
+
+    /// How often a call failed for want of memory.
+    pub fn short(&self) -> u64
+        ensures { result ≡ short_of self.now }
+    {
+        self.counts.short
+    }
+
+    /// What was written under a name since its writing began. None where it never began.
+    pub fn written(&self, name: &str) -> Option<&[u8]>
+        ensures { Shows result ((shown_of self.now).written name.now) }
+    {
+        written(&self.outputs, name)
+    }
+
+    /// Whether the writing of a name was ended.
+    pub fn ended(&self, name: &str) -> bool
+        ensures { result ≡ (shown_of self.now).ended name.now }
+    {
+        is_whole(&self.outputs, name)
+    }
+}
+
+impl Desk for MemoryDesk {
+    ghost use Rattle.std.specs.Prelude.{◌≡◌, ◌+◌, ◌⊎◌, false, take, length, min, OnErr, OnOk, IfOk, IsErr};
+    ghost use Rattle.brep_desk.specs.Causes.{HasCause};
+    ghost use Rattle.brep_desk.specs.Shown.{tells_all, Same};
+    ghost use Rattle.brep_desk.specs.Calls.{BeginsReading, Reads, BeginsWriting, Writes, Ends};
+    ghost use Rattle.brep_desk.specs.Strays.{CountsStrays, is_stray_begin_read, is_stray_read, is_stray_write, is_stray_end};
+    ghost use Rattle.brep_desk.specs.Counting.{strays_after};
+    ghost use Rattle.brep_desk.specs.Memory.{shown_of, faults_of, short_of, channels_of, piece_of, Counted, RanShort, CannotBeginReading, CannotRead, CannotBeginWriting, CannotWrite, CannotEnd};
+
+    ghost faults = { faults_of };
+
+    ghost tells = { tells_all };
+
+    ghost shows = { shown_of };
+
+    /// Fails at a name that is not held, and where only the last number is left for a channel.
+    fn begin_read(&mut self, name: &str) -> Result<Chan, Failed>
+        ensures cause { HasCause (faults_of self.old) (faults_of self.new) result }
+        ensures begins { IfOk result (λ c. BeginsReading tells_all (shown_of self.old) (shown_of self.new) name.now c.number) }
+        ensures unchanged { OnErr result (Same (shown_of self.old) (shown_of self.new)) }
+        ensures strays { CountsStrays tells_all (shown_of self.old) (shown_of self.new) (is_stray_begin_read tells_all ((shown_of self.old).held name.now)) }
+        ensures one_stray { (shown_of self.new).strays ≡ strays_after (is_stray_begin_read tells_all ((shown_of self.old).held name.now)) (shown_of self.old).strays }
+        ensures counted { Counted self.old self.new result }
+        ensures due { CannotBeginReading self.old name.now → IsErr result × (short_of self.new ≡ short_of self.old) }
+        ensures refused { OnErr result (CannotBeginReading self.old name.now ⊎ RanShort self.old self.new) }
+        ensures number { IfOk result (λ c. c.number ≡ channels_of self.old) }
+        ensures next { OnOk result (channels_of self.new ≡ channels_of self.old + 1) }
+        ensures same_next { OnErr result (channels_of self.new ≡ channels_of self.old) }
+    {
+        let stray = stray_begin_read(&self.files, name);
+        let call = self.counts.next_call(stray);
+        if self.failing.contains(&call) {
+            return Err(self.counts.refuse(Refusal::Fault));
+        }
+        match begin_reading(self.alloc, &self.files, &mut self.channels, name) {
+            Ok(number) => Ok(Chan { number }),
+            Err(refusal) => Err(self.counts.refuse(refusal)),
+        }
+    }
+
+    /// Fails at a channel that is not open for reading.
+    fn read(&mut self, c: Chan, buf: &mut [u8]) -> Result<usize, Failed>
+        ensures cause { HasCause (faults_of self.old) (faults_of self.new) result }
+        ensures reads { IfOk result (λ n. Reads tells_all (shown_of self.old) (shown_of self.new) c.number (length buf.old) n (take n buf.new)) }
+        ensures unchanged { OnErr result (Same (shown_of self.old) (shown_of self.new)) }
+        ensures strays { CountsStrays tells_all (shown_of self.old) (shown_of self.new) (is_stray_read ((shown_of self.old).opened c.number) (length buf.old)) }
+        ensures one_stray { (shown_of self.new).strays ≡ strays_after (is_stray_read ((shown_of self.old).opened c.number) (length buf.old)) (shown_of self.old).strays }
+        ensures counted { Counted self.old self.new result }
+        ensures due { CannotRead self.old c.number → IsErr result }
+        ensures refused { OnErr result (CannotRead self.old c.number) }
+        ensures moves { IfOk result (λ n. n ≡ min (min (length ((shown_of self.old).left c.number)) (length buf.old)) (piece_of self.old)) }
+        ensures enough { short_of self.new ≡ short_of self.old }
+        ensures same_next { channels_of self.new ≡ channels_of self.old }
+    {
+        let stray = stray_read(&self.channels, c.number, buf.len());
+        let call = self.counts.next_call(stray);
+        if self.failing.contains(&call) {
+            return Err(self.counts.refuse(Refusal::Fault));
+        }
+        match read(&mut self.channels, c.number, buf, self.piece) {
+            Some(count) => Ok(count),
+            None => Err(self.counts.refuse(Refusal::Fault)),
+        }
+    }
+
+    /// Fails where only the last number is left for a channel.
+    fn begin_write(&mut self, name: &str) -> Result<Chan, Failed>
+        ensures cause { HasCause (faults_of self.old) (faults_of self.new) result }
+        ensures begins { IfOk result (λ c. BeginsWriting tells_all (shown_of self.old) (shown_of self.new) name.now c.number) }
+        ensures unchanged { OnErr result (Same (shown_of self.old) (shown_of self.new)) }
+        ensures strays { CountsStrays tells_all (shown_of self.old) (shown_of self.new) false }
+        ensures one_stray { (shown_of self.new).strays ≡ strays_after false (shown_of self.old).strays }
+        ensures counted { Counted self.old self.new result }
+        ensures due { CannotBeginWriting self.old → IsErr result × (short_of self.new ≡ short_of self.old) }
+        ensures refused { OnErr result (CannotBeginWriting self.old ⊎ RanShort self.old self.new) }
+        ensures number { IfOk result (λ c. c.number ≡ channels_of self.old) }
+        ensures next { OnOk result (channels_of self.new ≡ channels_of self.old + 1) }
+        ensures same_next { OnErr result (channels_of self.new ≡ channels_of self.old) }
+    {
+        let call = self.counts.next_call(false);
+        if self.failing.contains(&call) {
+            return Err(self.counts.refuse(Refusal::Fault));
+        }
+        match begin_writing(self.alloc, &mut self.outputs, &mut self.channels, name) {
+            Ok(number) => Ok(Chan { number }),
+            Err(refusal) => Err(self.counts.refuse(refusal)),
+        }
+    }
+
+    /// Fails at a channel that is not open for writing.
+    fn write(&mut self, c: Chan, bytes: &[u8]) -> Result<usize, Failed>
+        ensures cause { HasCause (faults_of self.old) (faults_of self.new) result }
+        ensures writes { IfOk result (λ n. Writes tells_all (shown_of self.old) (shown_of self.new) c.number bytes.now n) }
+        ensures unchanged { OnErr result (Same (shown_of self.old) (shown_of self.new)) }
+        ensures strays { CountsStrays tells_all (shown_of self.old) (shown_of self.new) (is_stray_write ((shown_of self.old).opened c.number) (length bytes.now)) }
+        ensures one_stray { (shown_of self.new).strays ≡ strays_after (is_stray_write ((shown_of self.old).opened c.number) (length bytes.now)) (shown_of self.old).strays }
+        ensures counted { Counted self.old self.new result }
+        ensures due { CannotWrite self.old c.number → IsErr result × (short_of self.new ≡ short_of self.old) }
+        ensures refused { OnErr result (CannotWrite self.old c.number ⊎ RanShort self.old self.new) }
+        ensures moves { IfOk result (λ n. n ≡ min (length bytes.now) (piece_of self.old)) }
+        ensures same_next { channels_of self.new ≡ channels_of self.old }
+    {
+        let stray = stray_write(&self.channels, c.number, bytes.len());
+        let call = self.counts.next_call(stray);
+        if self.failing.contains(&call) {
+            return Err(self.counts.refuse(Refusal::Fault));
+        }
+        match write_over(
+            &mut self.outputs,
+            &self.channels,
+            c.number,
+            bytes,
+            self.piece,
+        ) {
+            Ok(count) => Ok(count),
+            Err(refusal) => Err(self.counts.refuse(refusal)),
+        }
+    }
+
+    /// Fails at a channel that is not open.
+    fn end(&mut self, c: Chan) -> Result<(), Failed>
+        ensures cause { HasCause (faults_of self.old) (faults_of self.new) result }
+        ensures ends { IfOk result (λ _. Ends tells_all (shown_of self.old) (shown_of self.new) c.number) }
+        ensures unchanged { OnErr result (Same (shown_of self.old) (shown_of self.new)) }
+        ensures strays { CountsStrays tells_all (shown_of self.old) (shown_of self.new) (is_stray_end ((shown_of self.old).opened c.number)) }
+        ensures one_stray { (shown_of self.new).strays ≡ strays_after (is_stray_end ((shown_of self.old).opened c.number)) (shown_of self.old).strays }
+        ensures counted { Counted self.old self.new result }
+        ensures due { CannotEnd self.old c.number → IsErr result }
+        ensures refused { OnErr result (CannotEnd self.old c.number) }
+        ensures enough { short_of self.new ≡ short_of self.old }
+        ensures same_next { channels_of self.new ≡ channels_of self.old }
+    {
+        let stray = stray_end(&self.channels, c.number);
+        let call = self.counts.next_call(stray);
+        if self.failing.contains(&call) {
+            return Err(self.counts.refuse(Refusal::Fault));
+        }
+        if end_channel(&mut self.outputs, &mut self.channels, c.number) {
+            Ok(())
+        } else {
+            Err(self.counts.refuse(Refusal::Fault))
+        }
+    }
+
+    fn faults(&self) -> u64 {
+        self.counts.faults
+    }
+
+    ghost told = { record { held = λ h. h; left = λ h. h; written = λ h. h; ended = λ h. h; strays = λ h. h } };
+}

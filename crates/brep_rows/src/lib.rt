@@ -1,0 +1,11 @@
+//! Tests that cross crates: whole runs of the program's commands over a desk in memory.
+#![tactic(auto)]
+
+#[cfg(test)]
+mod copies;
+#[cfg(test)]
+mod faults;
+#[cfg(test)]
+mod refusals;
+#[cfg(test)]
+mod runs;

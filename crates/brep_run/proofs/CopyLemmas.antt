@@ -1,0 +1,141 @@
+-- The expansion of a sound file can be written.
+use Rattle.std.proofs.Common.{◌≡◌, ◌<◌, ◌≤◌, ◌-◌, refl, sym, ◌∙◌, ap, subst, arith, inr}
+use Rattle.std.specs.Prelude.{ℕ, ◌^◌, Bool, true, false, if◌then◌else◌, Option, Some, List, map, length, Contains, slice_get}
+use Rattle.std.specs.Option.{option_map_or}
+use Rattle.std.proofs.lemmas.List.{length-map}
+use Rattle.std.proofs.lemmas.List.Elements.{All-map, All-contains, All-weaker}
+use Rattle.std.proofs.lemmas.Option.{same_Some}
+use Rattle.orientation.specs.Kinds.{IsBelow}
+use Rattle.expansion_laws.specs.Trees.{Tree, Use, Uses, node, no_use, a_use, a_single, uses, origin}
+use Rattle.expansion_laws.specs.Equality.{tree_eq}
+use Rattle.expansion_laws.specs.Measures.{subtrees}
+use Rattle.expansion_laws.specs.Expansion.{NumberedUse, IsNumberOf, IsFile, expanded, trees_of_file}
+use Rattle.expansion_laws.specs.Sharing.{relabelled, relabelled_uses, use_with_origins}
+use Rattle.expansion_laws.specs.Written.{flat}
+use Rattle.expansion_laws.specs.Fewest.{NoFileHasFewer}
+use Rattle.expansion_laws.specs.Walk.{RecordsAreTrees}
+use Rattle.expansion_laws.proofs.Members.{Contains-map_cases, at_place}
+use Rattle.brep_run.specs.declared.file.FileUse.{FileUse}
+use Rattle.brep_run.specs.declared.file.Record.{Record}
+use Rattle.brep_run.specs.declared.file.File.{File}
+use Rattle.brep_run.specs.PlainRecords.{record_of, plain_use, plain_records, tree_of_record, expansion_of}
+use Rattle.brep_run.specs.Sound.{IsUse, IsSound}
+use Rattle.brep_run.specs.Dress.{head_for, made_head, rebuilt}
+use Rattle.brep_run.specs.Copies.{CanBeWritten}
+use Rattle.brep_run.proofs.NumberedRecords.{NamesAboveIts, map-from_end, names_from-numbers}
+
+-- a tree relabelled by its own origins is the tree
+mutual
+  own-origins : (x : Tree) → relabelled (λ y. origin y) x ≡ x
+  own-origins (node k us) = ap (node k) (own_uses-origins us)
+
+  own_uses-origins : (us : Uses) → relabelled_uses (λ y. origin y) us ≡ us
+  own_uses-origins no_use = refl
+  own_uses-origins (a_use t w x others) = λ i. a_use t w (own-origins x i) (own_uses-origins others i)
+
+-- a head has the kind of the record that it was made from
+kind-chosen : (same : Bool) (r : Record) → (option_map_or (λ (s : Record). if same then s.head else rebuilt s.head) (Some r) made_head).kind ≡ r.head.kind
+kind-chosen true r = refl
+kind-chosen false r = refl
+
+module _ (f : File) where
+  abbrev uses_of_record : Record → List NumberedUse
+  uses_of_record r = map plain_use r.uses
+
+  count-plain : length (plain_records f) ≡ length f.records
+  count-plain = length-map f.records uses_of_record
+
+  record-at : (k : ℕ) → IsNumberOf (length f.records) k → (r : Record) × (record_of f k ≡ Some r)
+  record-at k n = (let low = n.0 in let high = n.1 in at_place f.records (length f.records - k) (omega (arith, low, high)))
+
+  plain-at : (k : ℕ) (r : Record) → record_of f k ≡ Some r → slice_get (plain_records f) (length (plain_records f) - k) ≡ Some (uses_of_record r)
+  plain-at k r e = map-from_end uses_of_record f.records k r e
+
+  kind-for : (x : Tree) (r : Record) → record_of f (origin x) ≡ Some r → (head_for f x).kind ≡ r.head.kind
+  kind-for x r e =
+      ap (λ (o : Option Record). (option_map_or (λ (s : Record). if tree_eq x (tree_of_record f (origin x)) then s.head else rebuilt s.head) o made_head).kind) e
+      ∙ kind-chosen (tree_eq x (tree_of_record f (origin x))) r
+
+  module _ (sound : IsSound f) where
+    names-sound : (k : ℕ) (us : List NumberedUse) → IsNumberOf (length (plain_records f)) k → slice_get (plain_records f) (length (plain_records f) - k) ≡ Some us →
+        NamesAboveIts (length (plain_records f)) k us
+    names-sound k us n e =
+        let number : IsNumberOf (length f.records) k = subst (λ j. IsNumberOf j k) count-plain n in
+        let at = record-at k number in
+        let named = (sound.records k at.0 number at.1).uses in
+        let here : NamesAboveIts (length f.records) k (uses_of_record at.0) =
+        All-map (λ (v : NumberedUse). (k < v.number) × (v.number ≤ length f.records)) plain_use at.0.uses
+        (All-weaker (IsUse f k at.0.head.kind) (λ u. (k < u.number) × (u.number ≤ length f.records)) (λ u is. (is.above, is.named)) at.0.uses named) in
+        subst (λ j. NamesAboveIts j k us) (sym count-plain)
+        (subst (NamesAboveIts (length f.records) k) (same_Some (uses_of_record at.0) us (sym (plain-at k at.0 at.1) ∙ e)) here)
+
+    pub file-sound : IsFile (plain_records f) (plain_use f.root)
+    file-sound = record {
+      names_above = names_from-numbers (plain_records f) names-sound;
+      names_root = subst (λ j. IsNumberOf j f.root.number) (sym count-plain) sound.root;
+    }
+
+    module _ (walk : RecordsAreTrees (plain_records f)) where
+      -- what stands in the expansion is the tree of a record
+      record Stands (x : Tree) : Type 0 where
+        pub number : IsNumberOf (length f.records) (origin x)
+        pub tree : x ≡ tree_of_record f (origin x)
+
+      stands-below : (x : Tree) → Contains (subtrees (expansion_of f).tree) x → Stands x
+      stands-below x m =
+          let below = walk.below f.root.number x (file-sound.names_root) m in
+          record { number = subst (λ j. IsNumberOf j (origin x)) count-plain below.0; tree = below.1 }
+
+      -- its uses are those of the record
+      record Comes (x : Tree) (u : Use) : Type 0 where
+        pub own : Record
+        pub is_own : record_of f (origin x) ≡ Some own
+        pub file_use : FileUse
+        pub is_use : IsUse f (origin x) own.head.kind file_use
+        pub is : expanded 1 (trees_of_file (plain_records f)) (plain_use file_use) ≡ u
+
+      comes-from : (x : Tree) (u : Use) → Stands x → Contains (uses x) u → Comes x u
+      comes-from x u stands m =
+          let at = record-at (origin x) stands.number in
+          let listed : uses x ≡ map (expanded 1 (trees_of_file (plain_records f))) (uses_of_record at.0) =
+          ap uses stands.tree ∙ walk.same_uses (origin x) (uses_of_record at.0) (subst (λ j. IsNumberOf j (origin x)) (sym count-plain) stands.number) (plain-at (origin x) at.0 at.1) in
+          let plain = Contains-map_cases (expanded 1 (trees_of_file (plain_records f))) u (uses_of_record at.0) (subst (λ l. Contains l u) listed m) in
+          let from = Contains-map_cases plain_use plain.0 at.0.uses plain.1 in
+          record {
+            own = at.0;
+            is_own = at.1;
+            file_use = from.0;
+            is_use = All-contains (IsUse f (origin x) at.0.head.kind) at.0.uses from.0 (sound.records (origin x) at.0 stands.number at.1).uses from.1;
+            is = ap (expanded 1 (trees_of_file (plain_records f))) from.2 ∙ plain.2;
+          }
+
+      in-order : (x : Tree) (u : Use) → Contains (subtrees (expansion_of f).tree) x → Contains (uses x) u → IsBelow (head_for f u.tree).kind (head_for f x).kind
+      in-order x u m k =
+          let stands = stands-below x m in
+          let c = comes-from x u stands k in
+          let low = c.is_use.above in
+          let number : IsNumberOf (length f.records) c.file_use.number = (omega (arith, low), c.is_use.named) in
+          let named : origin u.tree ≡ c.file_use.number =
+          ap (λ (v : Use). origin v.tree) (sym c.is) ∙ walk.origins c.file_use.number (subst (λ j. IsNumberOf j c.file_use.number) (sym count-plain) number) in
+          let child = record-at c.file_use.number number in
+          subst (λ a. IsBelow a (head_for f x).kind) (sym (kind-for u.tree child.0 (ap (record_of f) named ∙ child.1)))
+          (subst (IsBelow child.0.head.kind) (sym (kind-for x c.own c.is_own)) (c.is_use.in_order child.0 child.1))
+
+      count-flat : NoFileHasFewer (expansion_of f) → length (flat (expansion_of f).tree) < 10 ^ 18
+      count-flat fewest =
+          let same : use_with_origins (λ k. k) (expansion_of f) ≡ expansion_of f =
+          λ i. a_single (expansion_of f).turn (expansion_of f).word (own-origins (expansion_of f).tree i) in
+          let low = fewest (plain_records f) (plain_use f.root) (λ k. k) file-sound same in
+          let high = sound.countable in
+          let count = count-plain in
+          omega (arith, low, high, count)
+
+      pub expansion-writable : NoFileHasFewer (expansion_of f) → CanBeWritten f (expansion_of f)
+      expansion-writable fewest = record {
+        origins = λ x m. inr (stands-below x m).number;
+        in_order = in-order;
+        words = λ x u m k. ap (λ (v : Use). v.word) (sym (comes-from x u (stands-below x m) k).is);
+        root_word = refl;
+        shallow = sound.depths f.root.number sound.root;
+        countable = count-flat fewest;
+      }

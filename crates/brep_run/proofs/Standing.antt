@@ -1,0 +1,80 @@
+-- The file that is written for a root stands for it: its expansion, dressed, is the dressed root.
+use Rattle.std.proofs.Common.{◌≡◌, ◌-◌, refl, sym, ◌∙◌, ap, subst}
+use Rattle.std.specs.Prelude.{ℕ, Option, Some, List, map, length, Contains, slice_get}
+use Rattle.std.specs.Option.{option_map_or}
+use Rattle.std.proofs.lemmas.List.{length-map}
+use Rattle.expansion_laws.specs.Trees.{Tree, Use, a_single, uses, origin}
+use Rattle.expansion_laws.specs.Measures.{subtrees}
+use Rattle.expansion_laws.specs.Expansion.{IsNumberOf, tree_of_number, expansion}
+use Rattle.expansion_laws.specs.Sharing.{relabelled, relabelled_use, with_origins, use_with_origins, IsShared}
+use Rattle.expansion_laws.specs.Written.{flat, number_in, numbered, records_of, origins_of, IsWritten}
+use Rattle.expansion_laws.specs.Walk.{RecordsAreTrees}
+use Rattle.expansion_laws.proofs.Members.{Contains-at}
+use Rattle.expansion_laws.proofs.Relabelling.{relabelled-twice, relabelled-same}
+use Rattle.brep_run.specs.declared.file.Record.{Record}
+use Rattle.brep_run.specs.declared.file.File.{File}
+use Rattle.brep_run.specs.PlainRecords.{plain_use, expansion_of}
+use Rattle.brep_run.specs.Dress.{Dressed, dressed, head_for, head_of, made_head, dress, full}
+use Rattle.brep_run.specs.WrittenFile.{written_file}
+use Rattle.brep_run.specs.Copies.{CanBeWritten, StandsFor}
+use Rattle.brep_run.proofs.WrittenSound.{record-made, tree-made, plain-made, root-made}
+
+module _ (f : File) (root : Use) (can : CanBeWritten f root) (written : IsWritten root (flat root.tree)) (walk : RecordsAreTrees (records_of (flat root.tree))) where
+  abbrev trees : List Tree
+  trees = flat root.tree
+
+  abbrev made : File
+  made = written_file f root
+
+  -- the expansion of the trees' records, whose origins are their numbers
+  abbrev again : Use
+  again = expansion (records_of trees) (numbered trees root)
+
+  abbrev restore : Tree → Tree
+  restore x = with_origins (origins_of trees) x
+
+  abbrev dressed_for : Tree → Dressed
+  dressed_for x = dressed (head_for f x)
+
+  abbrev dressed_of : Tree → Dressed
+  dressed_of x = dressed (head_of made (origin x))
+
+  expansion-made : expansion_of made ≡ again
+  expansion-made = λ i. expansion (plain-made f root can written i) (root-made f root can written i)
+
+  -- the number of a tree has the head under which the tree is written
+  head-made : (k : ℕ) (x : Tree) → slice_get trees (length trees - k) ≡ Some x → head_of made k ≡ head_for f x
+  head-made k x e = ap (λ (o : Option Record). option_map_or (λ r. r.head) o made_head) (record-made f root can written k x e)
+
+  -- the tree of a number is that of the record, with the origins put back
+  number-stands : (k : ℕ) (x : Tree) → IsNumberOf (length trees) k → slice_get trees (length trees - k) ≡ Some x → restore (tree_of_number (records_of trees) k) ≡ x
+  number-stands k x n e =
+      ap (λ j. restore (tree_of_number (records_of trees) j)) (sym (written.lists.once k x n e))
+      ∙ written.stands_for x (Contains-at trees (length trees - k) x e)
+
+  same-dress : (y : Tree) → Contains (subtrees again.tree) y → dressed_of y ≡ dressed_for (restore y)
+  same-dress y m =
+      let stands = walk.below (number_in trees root.tree) y written.file.names_root m in
+      let n : IsNumberOf (length trees) (origin y) = subst (λ j. IsNumberOf j (origin y)) (length-map trees (λ x. map (numbered trees) (uses x))) stands.0 in
+      let at = tree-made f root can written (origin y) n in
+      ap dressed (head-made (origin y) at.0 at.1 ∙ ap (head_for f) (sym (ap restore stands.1 ∙ number-stands (origin y) at.0 n at.1)))
+
+  same-tree : relabelled dressed_of again.tree ≡ relabelled dressed_for (restore again.tree)
+  same-tree =
+      relabelled-same dressed_of (λ y. dressed_for (restore y)) again.tree same-dress
+      ∙ sym (relabelled-twice (λ y. origins_of trees (origin y)) dressed_for again.tree)
+
+  full-made : full made ≡ dress f root
+  full-made =
+      ap (relabelled_use dressed_of) expansion-made
+      ∙ (λ i. a_single again.turn again.word (same-tree i))
+      ∙ ap (relabelled_use dressed_for) written.expands
+
+  pub written-stands : StandsFor f root made
+  written-stands = record {
+    dressed = full-made;
+    relabelled = ap (use_with_origins (origins_of trees)) expansion-made ∙ written.expands;
+    version = refl;
+    shared = subst (λ records. IsShared records (plain_use made.root) (origins_of trees)) (sym (plain-made f root can written))
+        (subst (λ use_of. IsShared (records_of trees) use_of (origins_of trees)) (sym (root-made f root can written)) written.shared);
+  }

@@ -1,0 +1,6 @@
+-- By the laws of the layers below.
+use Rattle.brep_run.proofs.TextLemmas.{texts-stand}
+use Rattle.brep_run.proofs.laws.texts_stand_for_roots.Goals as goal
+
+pub returns : goal.returns
+returns c = texts-stand c.roots_are_written.ensures c.records_are_trees.ensures c.fewest.ensures c.written_is_read.ensures c.reading_is_exact.ensures

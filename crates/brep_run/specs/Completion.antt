@@ -1,0 +1,60 @@
+-- Records by their numbers in the order of first completion, and the trees that they stand for.
+use Rattle.std.specs.Prelude.{◌≡◌, ℕ, suc, ◌+◌, ◌-◌, ◌<◌, ◌≤◌, ◌↔◌, ◌==◌, true, if◌then◌else◌, List, [], map, length, slice_index}
+use Rattle.std.specs.Option.{option_map_or}
+use Rattle.brep_tokens.specs.Written.{lines_text}
+use Rattle.expansion_laws.specs.Trees.{Tree, Use, uses_of}
+use Rattle.expansion_laws.specs.Equality.{tree_eq}
+use Rattle.expansion_laws.specs.Expansion.{IsNumberOf, expanded, trees_of_file}
+use Rattle.expansion_laws.specs.Walk.{RecordsAreTrees}
+use Rattle.expansion_laws.specs.Written.{completed, completed_uses}
+use Rattle.brep_run.specs.declared.file.FileUse.{FileUse}
+use Rattle.brep_run.specs.declared.file.Record.{Record}
+use Rattle.brep_run.specs.declared.file.File.{File}
+use Rattle.brep_run.specs.PlainRecords.{plain_use, plain_records, record_of, tree_of_record}
+use Rattle.brep_run.specs.Layout.{record_lines}
+use Rattle.brep_run.specs.Sound.{IsSound}
+
+-- the numbers of a sound file's records tell its trees apart
+pub record NumbersTell (f : File) : Type 0 where
+  pub sound : IsSound f
+  pub trees : RecordsAreTrees (plain_records f)
+  pub test : (x y : Tree) → (tree_eq x y ≡ true) ↔ (x ≡ y)
+
+-- Different numbers of n records, and for each record its place among them, counted from 1, or 0 for one that isn't there.
+pub record ArePlaced (n : ℕ) (numbers places : List ℕ) : Type 0 where
+  pub size : length places ≡ n
+  pub named : (i : ℕ) → i < length numbers → IsNumberOf n (slice_index numbers i)
+  pub placed : (i : ℕ) → i < length numbers → slice_index places (slice_index numbers i - 1) ≡ i + 1
+  pub within : (k : ℕ) → k < n → slice_index places k ≤ length numbers
+  pub found : (k : ℕ) → k < n → 0 < slice_index places k → slice_index numbers (slice_index places k - 1) ≡ k + 1
+
+-- the places of the records with the first numbers stay
+pub record FirstStay (count : ℕ) (before after : List ℕ) : Type 0 where
+  pub stay : (k : ℕ) → k < count → slice_index after k ≡ slice_index before k
+
+-- a use with the tree of the record that it names
+abbrev pub use_of_tree : File → FileUse → Use
+use_of_tree f u = expanded 1 (trees_of_file (plain_records f)) (plain_use u)
+
+-- the numbers go on by the record's subtrees
+pub record Completes (f : File) (number : ℕ) (before after : List ℕ) : Type 0 where
+  pub trees : map (tree_of_record f) after ≡ completed (tree_of_record f number) (map (tree_of_record f) before)
+
+-- and by those of each use in turn
+pub record CompletesUses (f : File) (us : List FileUse) (before after : List ℕ) : Type 0 where
+  pub trees : map (tree_of_record f) after ≡ completed_uses (uses_of (map (use_of_tree f) us)) (map (tree_of_record f) before)
+
+-- the number, counted from the last, of the record with a number, and 0 for one that isn't there
+abbrev pub new_number : List ℕ → List ℕ → ℕ → ℕ
+new_number numbers places k = if slice_index places (k - 1) == 0 then 0 else suc (length numbers - slice_index places (k - 1))
+
+-- a use and a record with the new numbers
+abbrev pub renumbered_use : List ℕ → List ℕ → FileUse → FileUse
+renumbered_use numbers places u = record { turn = u.turn; number = new_number numbers places u.number; location = 0 }
+
+abbrev pub renumbered : List ℕ → List ℕ → Record → Record
+renumbered numbers places r = record { head = r.head; uses = map (renumbered_use numbers places) r.uses }
+
+-- the lines of the record with a number
+abbrev pub lines_of_number : File → List ℕ → List ℕ → ℕ → List ℕ
+lines_of_number f numbers places k = option_map_or (λ r. lines_text (record_lines (renumbered numbers places r))) (record_of f k) []

@@ -1,0 +1,16 @@
+//! The top call: reads a BREP file, and writes it by the written layout.
+#![tactic(auto)]
+
+mod copy;
+pub mod file;
+pub mod laws;
+mod outcome;
+mod reader;
+mod stop;
+mod top;
+mod words;
+mod writer;
+
+pub use file::{File, FileUse, FileUses, Flags, Head, Payload, Record, Records, VertexData};
+pub use outcome::{LimitKind, Message, Outcome};
+pub use top::run;

@@ -1,0 +1,62 @@
+//! The top call: all that the program does.
+ghost use Rattle.std.specs.Prelude.{◌≡◌, ◌⊎◌, ℕ, List};
+ghost use Rattle.brep_desk.specs.Strays.{KeepsStrays};
+ghost use Rattle.brep_desk.specs.Whole.{NothingWritten};
+ghost use Rattle.brep_desk.specs.Causes.{Rose};
+ghost use Rattle.brep_run.specs.Words.{Asked, wrong, later, asked_of};
+ghost use Rattle.brep_run.specs.Outcomes.{OnDone, OnUsage, OnNotBuilt, IfLimit, IfReadDesk, IfWriteDesk, UnlessWriting, IsDoneOrNoMemory, IsReadDeskOrNoMemory};
+ghost use Rattle.brep_run.specs.Copy.{IsCopied, CopyExpands, CopyShares, IsStopped, IsUnbuilt, Counts, HasInput, HoldsInput, IsTooLong, IsReady, IsMissing};
+
+use crate::copy::copy;
+use crate::laws::{reading_is_exact, texts_stand_for_roots};
+use crate::outcome::Outcome;
+use crate::words::{Request, asked};
+use brep_desk::{CommandWords, Desk, Steps};
+use expansion_laws::laws::records_are_trees;
+use std::alloc::Global;
+use std::sync::ledger::Ledger;
+
+/// Does all that the program does, for the words after its name: `copy IN OUT` reads the file IN and writes it to OUT by
+/// the written layout. Names are names of the desk; `-` may be both.
+pub fn run<D: Desk, L: Ledger>(
+    alloc: Global,
+    words: &CommandWords,
+    desk: &mut D,
+    steps: &mut Steps<L>,
+) -> Outcome
+    // Done: the text due stands whole under OUT; it spells one file, which expands to the input's dressed expansion; and
+    // in that file two occurrences go through one record exactly where their trees are equal.
+    ensures done { OnDone result (IsCopied D.tells (D.shows desk.old) (D.shows desk.new) (asked_of words.now)) }
+    ensures expands { OnDone result (CopyExpands D.tells (D.shows desk.old) (D.shows desk.new) (asked_of words.now)) }
+    ensures shares { OnDone result (CopyShares D.tells (D.shows desk.old) (D.shows desk.new) (asked_of words.now)) }
+
+    // When each other answer comes.
+    ensures usage { OnUsage result (asked_of words.now ≡ wrong) }
+    ensures usage_due { asked_of words.now ≡ wrong → result ≡ Outcome.Usage }
+    ensures not_built { OnNotBuilt result (IsUnbuilt D.tells (D.shows desk.old) (asked_of words.now)) }
+    ensures not_built_due { asked_of words.now ≡ later → result ≡ Outcome.NotBuilt }
+    ensures limit { IfLimit result (λ which count. IsTooLong D.tells (D.shows desk.old) (asked_of words.now) which count) }
+    ensures read { IfReadDesk result (λ b a. Counts (D.faults desk.old) (D.faults desk.new) b a × HasInput (asked_of words.now)) }
+    ensures write { IfWriteDesk result (λ b a file taken. Counts (D.faults desk.old) (D.faults desk.new) b a) }
+    ensures stopped { IfWriteDesk result (λ b a file taken. IsStopped D.tells (D.shows desk.old) (D.shows desk.new) (asked_of words.now) file taken) }
+
+    // A file that is read is copied, unless a fault is counted or memory runs out; one that isn't held is a fault.
+    ensures complete { IsReady D.tells (D.shows desk.old) (asked_of words.now) → (Rose (D.faults desk.old) (D.faults desk.new) → ⊥) → IsDoneOrNoMemory result }
+    ensures missing { IsMissing D.tells (D.shows desk.old) (asked_of words.now) → IsReadDeskOrNoMemory result }
+
+    // After each answer but Done and WriteDesk nothing is written, and words that ask for no file touch nothing.
+    ensures quiet { UnlessWriting result (NothingWritten D.tells (D.shows desk.old) (D.shows desk.new)) }
+    // It makes no stray call, where the file that the words read is held.
+    ensures strays { HoldsInput D.tells (D.shows desk.old) (asked_of words.now) → KeepsStrays D.tells (D.shows desk.old) (D.shows desk.new) }
+    ensures untouched { (HasInput (asked_of words.now) → ⊥) → desk.new ≡ desk.old }
+    ensures steps { steps.new ≡ steps.old }
+{
+    reading_is_exact();
+    texts_stand_for_roots();
+    records_are_trees();
+    match asked(words.as_slice()) {
+        Request::Wrong => Outcome::Usage,
+        Request::Later => Outcome::NotBuilt,
+        Request::Copy { source, target } => copy(alloc, desk, source, target),
+    }
+}

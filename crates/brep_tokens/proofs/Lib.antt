@@ -1,0 +1,10 @@
+pub mod NumberForms
+pub mod Runs
+pub mod Heads
+pub mod PiecesLemmas
+pub mod FormLaws
+pub mod LineLemmas
+pub mod PlainWords
+pub mod DecimalGrammar
+pub mod ScanLaws
+pub mod Standing

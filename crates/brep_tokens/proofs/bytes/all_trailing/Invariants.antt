@@ -1,0 +1,7 @@
+use Rattle.brep_tokens.specs.Bytes.{is_trailing}
+use Rattle.std.proofs.Common.{◌≡◌, drop}
+use Rattle.std.specs.List.{list_all}
+use Rattle.brep_tokens.proofs.bytes.all_trailing.Given as goal
+
+abbrev pub invariant-loop-b : goal.invariant-loop-b
+invariant-loop-b l = list_all is_trailing (drop l.b-index l.text) ≡ list_all is_trailing l.text

@@ -1,0 +1,10 @@
+pub mod Bytes
+pub mod Forms
+pub mod Tokens
+pub mod Scan
+pub mod Text
+pub mod State
+pub mod Pieces
+pub mod Written
+pub mod Grammar
+pub mod Laws

@@ -1,0 +1,9 @@
+pub mod Members
+pub mod TreeEquality
+pub mod Subtrees
+pub mod FileTrees
+pub mod Relabelling
+pub mod FlatLemmas
+pub mod NumberLemmas
+pub mod WrittenLemmas
+pub mod FewestLemmas

@@ -1,0 +1,10 @@
+pub mod WordLaws
+pub mod GroupLaws
+pub mod InverseLemmas
+pub mod SumLemmas
+pub mod FaultLemmas
+pub mod SeamLemmas
+pub mod ProductLemmas
+pub mod PowerLemmas
+pub mod TableLemmas
+pub mod ChainLaws

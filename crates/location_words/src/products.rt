@@ -1,0 +1,183 @@
+//! Products of words.
+ghost use Rattle.std.specs.Prelude.{◌≡◌, ◌^◌, All, nat_abs, ◌≢◌, ◌≤◌, ◌<◌, ℕ, ◌+◌, ◌-◌, pos, ◌+ℤ◌, List, ◌++◌, None, drop, length, map, option_to_list, slice_index_or, sum_by, take, Err, IfErr, IfOk, IsOk, OnOk};
+ghost use Rattle.location_words.specs.declared.pair.Pair.{Pair};
+ghost use Rattle.location_words.specs.Faults.{fault_of, large_power, IsDueFault};
+ghost use Rattle.location_words.specs.Pairs.{mul as mul_of, norm, AllSmall, IsHeldWord};
+ghost use Rattle.location_words.specs.Sums.{as_pair};
+ghost use Rattle.location_words.specs.Products.{product as product_of};
+
+use crate::fault::{MOST_PAIRS, MOST_POWER};
+use crate::sum::{Wide, take_all, within};
+use crate::{Pair, Word, WordFault};
+use smallvec::SmallVec;
+use std::alloc::{AllocError, Global};
+
+/// The product of an outer and an inner word: the inner one is applied first.
+///
+/// The time is linear in the pairs that cancel where the words meet plus those that are copied.
+pub fn mul(outer: &Word, inner: &Word) -> Result<Word, WordFault>
+    ensures ok { IfOk result (λ w. w ≡ mul_of outer.now inner.now) }
+    ensures within { OnOk result (fault_of (mul_of outer.now inner.now) ≡ None) }
+    ensures refused { IfErr result (λ fault. IsDueFault (fault_of (mul_of outer.now inner.now)) fault) }
+    ensures inline { length outer.now + length inner.now ≤ 4 → result ≢ Err WordFault.NoMemory }
+{
+    let first = inner.pairs.as_slice();
+    let second = outer.pairs.as_slice();
+    let seam = seam_of(first, second);
+    joined(
+        *inner.pairs.allocator(),
+        &first[..seam.kept],
+        seam.joined,
+        &second[seam.dropped..],
+    )
+}
+
+/// How two words meet: the first pairs of the one that stay, the pair that their meeting ones make, if any, and how many of the
+/// other's first pairs go.
+#[derive(Clone, Copy)]
+struct Seam {
+    kept: usize,
+    joined: Option<Pair>,
+    dropped: usize,
+}
+
+/// How an inner word meets an outer one.
+fn seam_of(inner: &[Pair], outer: &[Pair]) -> Seam
+    requires inner { IsHeldWord inner.now }
+    requires outer { IsHeldWord outer.now }
+    ensures kept { result.kept ≤ length inner.now }
+    ensures dropped { result.dropped ≤ length outer.now }
+    ensures shorter { result.kept + length (option_to_list result.joined) + (length outer.now - result.dropped) ≤ length inner.now + length outer.now }
+    ensures whole { take result.kept inner.now ++ option_to_list result.joined ++ drop result.dropped outer.now ≡ norm (inner.now ++ outer.now) }
+{
+    let gone = cancelled(inner, outer);
+    let kept = inner.len() - gone;
+    if kept > 0 && gone < outer.len() {
+        let last = inner[kept - 1];
+        let next = outer[gone];
+        if last.datum == next.datum {
+            let pair = Pair {
+                datum: last.datum,
+                power: last.power + next.power,
+            };
+            return Seam {
+                kept: kept - 1,
+                joined: Some(pair),
+                dropped: gone + 1,
+            };
+        }
+    }
+    Seam {
+        kept,
+        joined: None,
+        dropped: gone,
+    }
+}
+
+/// How many pairs of each of the two words cancel where they meet.
+fn cancelled(inner: &[Pair], outer: &[Pair]) -> usize
+    requires inner { IsHeldWord inner.now }
+    requires outer { IsHeldWord outer.now }
+    ensures of_inner { result ≤ length inner.now }
+    ensures of_outer { result ≤ length outer.now }
+    ensures same { norm (take (length inner.now - result) inner.now ++ drop result outer.now) ≡ norm (inner.now ++ outer.now) }
+    ensures stops { (d : Pair) → result < length inner.now → result < length outer.now
+        → (slice_index_or inner.now (length inner.now - result - 1) d).datum ≡ (slice_index_or outer.now result d).datum
+        → (slice_index_or inner.now (length inner.now - result - 1) d).power +ℤ (slice_index_or outer.now result d).power ≢ pos 0 }
+{
+    let most = inner.len().min(outer.len());
+    for gone in 0..most {
+        let last = inner[inner.len() - gone - 1];
+        let next = outer[gone];
+        if last.datum != next.datum || last.power + next.power != 0 {
+            return gone;
+        }
+    }
+    most
+}
+
+/// The word of three parts, one after another, where it is within the limits.
+fn joined(
+    alloc: Global,
+    kept: &[Pair],
+    middle: Option<Pair>,
+    rest: &[Pair],
+) -> Result<Word, WordFault>
+    requires few { (length kept.now ≤ 4096) × (length rest.now ≤ 4096) }
+    requires small { AllSmall kept.now × AllSmall rest.now }
+    requires word { norm (kept.now ++ option_to_list middle ++ rest.now) ≡ kept.now ++ option_to_list middle ++ rest.now }
+    ensures ok { IfOk result (λ w. w ≡ kept.now ++ option_to_list middle ++ rest.now) }
+    ensures within { OnOk result (fault_of (kept.now ++ option_to_list middle ++ rest.now) ≡ None) }
+    ensures refused { IfErr result (λ fault. IsDueFault (fault_of (kept.now ++ option_to_list middle ++ rest.now)) fault) }
+    ensures inline { length kept.now + length (option_to_list middle) + length rest.now ≤ 4 → result ≢ Err WordFault.NoMemory }
+{
+    let count = kept.len() + usize::from(middle.is_some()) + rest.len();
+    if count > MOST_PAIRS {
+        return Err(WordFault::Pairs(count as u128));
+    }
+    if let Some(size) = large_size(middle) {
+        return Err(WordFault::Power(size));
+    }
+    match copied(alloc, kept, middle, rest) {
+        Ok(pairs) => Ok(Word { pairs }),
+        Err(_) => Err(WordFault::NoMemory),
+    }
+}
+
+/// The size of the power of a pair, if it is past the limit.
+fn large_size(middle: Option<Pair>) -> Option<u128>
+    ensures { result ≡ large_power (option_to_list middle) }
+{
+    let size = u128::from(middle?.power.unsigned_abs());
+    if size > MOST_POWER { Some(size) } else { None }
+}
+
+/// The pairs of the three parts, one after another.
+fn copied(
+    alloc: Global,
+    kept: &[Pair],
+    middle: Option<Pair>,
+    rest: &[Pair],
+) -> Result<SmallVec<Pair, 4>, AllocError>
+    requires { length kept.now + length (option_to_list middle) + length rest.now ≤ 4096 }
+    ensures ok { IfOk result (λ pairs. pairs.items ≡ kept.now ++ option_to_list middle ++ rest.now) }
+    ensures inline { length kept.now + length (option_to_list middle) + length rest.now ≤ 4 → IsOk result }
+{
+    let count = kept.len() + usize::from(middle.is_some()) + rest.len();
+    let mut pairs = SmallVec::with_capacity(alloc, count)?;
+    pairs.extend_from_slice(kept)?;
+    if let Some(pair) = middle {
+        pairs.push(pair)?;
+    }
+    pairs.extend_from_slice(rest)?;
+    Ok(pairs)
+}
+
+/// The product of words, outermost factor first, of which only the whole is tested against the limits: a product of some of the
+/// factors may pass them.
+pub fn product(alloc: Global, factors: &[&Word]) -> Result<Word, WordFault>
+    ensures ok { IfOk result (λ w. w ≡ product_of (map (λ w. w.now) factors.now)) }
+    ensures within { OnOk result (fault_of (product_of (map (λ w. w.now) factors.now)) ≡ None) }
+    ensures refused { IfErr result (λ fault. IsDueFault (fault_of (product_of (map (λ w. w.now) factors.now))) fault) }
+    ensures inline { sum_by (λ w. length w.now) factors.now ≤ 4 → result ≢ Err WordFault.NoMemory }
+{
+    match summed(alloc, factors) {
+        Ok(sum) => within(alloc, sum.as_slice()),
+        Err(_) => Err(WordFault::NoMemory),
+    }
+}
+
+/// The reduced pairs of all factors, the innermost one's first.
+fn summed(alloc: Global, factors: &[&Word]) -> Result<SmallVec<Wide, 4>, AllocError>
+    ensures ok { IfOk result (λ sum. map as_pair sum.items ≡ product_of (map (λ w. w.now) factors.now)) }
+    ensures fits { IfOk result (λ sum. All (λ q. nat_abs q.power ≤ 2 ^ 126) sum.items) }
+    ensures len { IfOk result (λ sum. length sum.items ≤ sum_by (λ w. length w.now) factors.now) }
+    ensures inline { sum_by (λ w. length w.now) factors.now ≤ 4 → IsOk result }
+{
+    let mut sum = SmallVec::new(alloc);
+    for i in 0..factors.len() {
+        let factor = factors[factors.len() - 1 - i];
+        take_all(&mut sum, factor.pairs.as_slice())?;
+    }
+    Ok(sum)
+}

@@ -1,0 +1,44 @@
+#!/usr/bin/env bash
+# Times the copy of a large file beside plain tools, in one run: a million vertices in one compound, about 60 MB.
+# By hand, not in the gate. usage: scripts/bench.sh [VERTICES]
+set -euo pipefail
+here=$(cd "$(dirname "$0")/.." && pwd)
+vertices=${1:-1000000}
+work=$(mktemp -d)
+trap 'rm -rf "$work"' EXIT
+
+# Vertices with coordinates of usual length, then one compound that uses each of them forward.
+awk -v n="$vertices" 'BEGIN {
+    print "CASCADE Topology V1, (c) Matra-Datavision"
+    print "Locations 0\nCurve2ds 0\nCurves 0\nPolygon3D 0\nPolygonOnTriangulations 0\nSurfaces 0\nTriangulations 0"
+    print "TShapes " n + 1
+    for (i = 0; i < n; i++) printf "Ve\n1e-07\n%d.5 %d.25 -%d\n0 0\n\n0101101\n*\n", i % 1000, i % 977, i % 991
+    print "Co\n\n1100000"
+    for (i = 0; i < n; i++) printf "+%d 0 ", n + 1 - i
+    print "*\n+1 0"
+}' >"$work/in.brep"
+bytes=$(stat -c %s "$work/in.brep")
+"$here/brep" gen 0 0 0 2>/dev/null || true # builds the program, where that is due
+
+# The processor and wall seconds and the peak memory in KiB of a command.
+measure() {
+    python3 - "$@" <<'PY'
+import os, resource, subprocess, sys, time
+start = time.time()
+subprocess.run(sys.argv[1:], check=True, stdout=subprocess.DEVNULL)
+use = resource.getrusage(resource.RUSAGE_CHILDREN)
+print('%.2f %.2f %d' % (time.time() - start, use.ru_utime + use.ru_stime, use.ru_maxrss))
+PY
+}
+
+read -r copy_wall copy_cpu copy_memory <<<"$(measure "$here/build/brep" copy "$work/in.brep" "$work/out.brep")"
+cmp "$work/in.brep" "$work/out.brep"
+read -r cat_wall cat_cpu _ <<<"$(measure cat "$work/in.brep")"
+read -r words_wall words_cpu _ <<<"$(LC_ALL=C measure wc -w "$work/in.brep")"
+
+printf '%-22s %12s\n' 'input bytes' "$bytes"
+printf '%-22s %12s s wall, %s s of processor\n' 'brep copy' "$copy_wall" "$copy_cpu" 'cat' "$cat_wall" "$cat_cpu" 'wc -w' "$words_wall" "$words_cpu"
+awk -v copy="$copy_wall" -v words="$words_wall" -v cat="$cat_wall" -v memory="$copy_memory" -v bytes="$bytes" 'BEGIN {
+    printf "%-22s %12.2f\n%-22s %12.2f\n", "copy / wc -w", copy / (words > 0 ? words : 0.01), "copy / cat", copy / (cat > 0 ? cat : 0.01)
+    printf "%-22s %12.2f\n", "peak memory / bytes", memory * 1024 / bytes
+}'
