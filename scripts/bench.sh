@@ -12,7 +12,7 @@ awk -v n="$vertices" 'BEGIN {
     print "CASCADE Topology V1, (c) Matra-Datavision"
     print "Locations 0\nCurve2ds 0\nCurves 0\nPolygon3D 0\nPolygonOnTriangulations 0\nSurfaces 0\nTriangulations 0"
     print "TShapes " n + 1
-    for (i = 0; i < n; i++) printf "Ve\n1e-07\n%d.5 %d.25 -%d\n0 0\n\n0101101\n*\n", i % 1000, i % 977, i % 991
+    for (i = 0; i < n; i++) printf "Ve\n1e-07\n%d.5125 %d.2575 -%d.125\n0 0\n\n0101101\n*\n", i % 1000, i % 977, i % 991
     print "Co\n\n1100000"
     for (i = 0; i < n; i++) printf "+%d 0 ", n + 1 - i
     print "*\n+1 0"

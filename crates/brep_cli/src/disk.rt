@@ -1,5 +1,6 @@
 //! Files and standard streams as a desk, which tells nothing of what they hold: the trusted edge of the program.
 ghost use Rattle.std.specs.Prelude.{◌≡◌, ◌+◌, ◌-◌, ◌^◌, min};
+ghost use Rattle.brep_desk.specs.Causes.{HasCause};
 ghost use Rattle.brep_desk.specs.Shown.{tells_nothing, shows_nothing};
 
 use brep_desk::{Chan, Desk, Failed};
@@ -30,7 +31,9 @@ pub struct DiskDesk<'a> {
 
 impl<'a> DiskDesk<'a> {
     /// A desk with no channel open and no fault counted.
-    pub fn new(rt: &'a HostRuntime) -> DiskDesk<'a> {
+    pub fn new(rt: &'a HostRuntime) -> DiskDesk<'a>
+        ensures { result.faults ≡ 0 }
+    {
         DiskDesk {
             rt,
             input: rt.stdin(),
@@ -38,6 +41,20 @@ impl<'a> DiskDesk<'a> {
             slots: Vec::new(rt.alloc()),
             faults: 0,
         }
+    }
+
+    /// A new channel for what was opened; a fault, where nothing was.
+    fn channel_for(&mut self, opened: Option<Slot>) -> Result<Chan, Failed>
+        ensures { HasCause self.old.faults self.new.faults result }
+    {
+        let number = self.slots.len() as u64;
+        if let Some(slot) = opened {
+            if self.slots.push(slot).is_ok() {
+                return Ok(Chan { number });
+            }
+        }
+        self.faults = raised(self.faults);
+        Err(Failed)
     }
 }
 
@@ -58,23 +75,12 @@ impl Desk for DiskDesk<'_> {
     ghost told = { record { held = λ h. h; left = λ h. h; written = λ h. h; ended = λ h. h; strays = λ h. h } };
 
     fn begin_read(&mut self, name: &str) -> Result<Chan, Failed> {
-        let number = self.slots.len() as u64;
-        let slot = if name == "-" {
-            Slot::Input
+        let opened = if name == "-" {
+            Some(Slot::Input)
         } else {
-            match fs::open(self.rt, name) {
-                Ok(file) => Slot::Reading(file),
-                Err(_) => {
-                    self.faults = raised(self.faults);
-                    return Err(Failed);
-                }
-            }
+            fs::open(self.rt, name).ok().map(Slot::Reading)
         };
-        if self.slots.push(slot).is_err() {
-            self.faults = raised(self.faults);
-            return Err(Failed);
-        }
-        Ok(Chan { number })
+        self.channel_for(opened)
     }
 
     fn read(&mut self, c: Chan, buf: &mut [u8]) -> Result<usize, Failed> {
@@ -90,23 +96,12 @@ impl Desk for DiskDesk<'_> {
     }
 
     fn begin_write(&mut self, name: &str) -> Result<Chan, Failed> {
-        let number = self.slots.len() as u64;
-        let slot = if name == "-" {
-            Slot::Output
+        let opened = if name == "-" {
+            Some(Slot::Output)
         } else {
-            match fs::create(self.rt, name) {
-                Ok(file) => Slot::Writing(file),
-                Err(_) => {
-                    self.faults = raised(self.faults);
-                    return Err(Failed);
-                }
-            }
+            fs::create(self.rt, name).ok().map(Slot::Writing)
         };
-        if self.slots.push(slot).is_err() {
-            self.faults = raised(self.faults);
-            return Err(Failed);
-        }
-        Ok(Chan { number })
+        self.channel_for(opened)
     }
 
     fn write(&mut self, c: Chan, bytes: &[u8]) -> Result<usize, Failed> {

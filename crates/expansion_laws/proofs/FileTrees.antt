@@ -6,7 +6,7 @@ use Rattle.std.proofs.lemmas.List.Elements.{All-head, All-tail}
 use Rattle.expansion_laws.specs.Trees.{Tree, Use, uses, origin, tree_of, a_single}
 use Rattle.expansion_laws.specs.Measures.{subtrees}
 use Rattle.expansion_laws.specs.Expansion.{NumberedUse, tree_at, expanded, trees_from, trees_of_file, tree_of_number, expansion, NamesAbove, IsNumberOf, IsFile}
-use Rattle.expansion_laws.proofs.Members.{Contains-map_cases, Some-same, slice_get-reverse}
+use Rattle.expansion_laws.proofs.Members.{All-member, Contains-map_cases, Some-same, slice_get-reverse}
 use Rattle.expansion_laws.proofs.Subtrees.{list_of-uses_of, subtrees-cases}
 
 pub length-trees_from : (first : ℕ) (records : List (List NumberedUse)) → length (trees_from first records) ≡ length records
@@ -37,9 +37,6 @@ expanded-more first x trees (u ∷ us) h =
 -- the first record's tree, and those of the later ones
 abbrev first_tree : ℕ → List NumberedUse → List (List NumberedUse) → Tree
 first_tree first us rest = tree_of first (map (expanded (suc first) (trees_from (suc first) rest)) us)
-
-All-member : {X : Type 0} (P : X → Type 0) (xs : List X) (x : X) → All P xs → Contains xs x → P x
-All-member P xs x all h = subst P h.2 (all h.0 x h.1)
 
 names_above-at : (first : ℕ) (records : List (List NumberedUse)) → NamesAbove first records → (i : ℕ) (us : List NumberedUse) → slice_get records i ≡ Some us →
     All (λ u. first < u.number) us

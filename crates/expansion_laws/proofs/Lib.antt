@@ -7,3 +7,17 @@ pub mod FlatLemmas
 pub mod NumberLemmas
 pub mod WrittenLemmas
 pub mod FewestLemmas
+pub mod CarriedLemmas
+pub mod LevelLemmas
+pub mod LeastLemmas
+pub mod MatchLemmas
+pub mod KeyLemmas
+pub mod VisitLemmas
+pub mod KeyVisitLemmas
+pub mod ListedLemmas
+pub mod ExampleLemmas
+pub mod PlainLemmas
+pub mod ExpansionLemmas
+pub mod SlowLemmas
+pub mod MovingLemmas
+pub mod PartLemmas

@@ -1,10 +1,11 @@
 -- Members of lists and their places, and lists that have each thing once.
-use Rattle.std.proofs.Common.{◌≡◌, ◌<◌, ◌≤◌, ◌-◌, refl, sym, ◌∙◌, ap, subst, arith, inl, inr, get_or, slice_index_or}
-use Rattle.std.specs.Prelude.{ℕ, zero, suc, ◌⊎◌, Bool, true, false, ◌||◌, Some, List, [], ◌∷◌, ◌++◌, map, length, reverse, Contains, slice_get, unwrap_or}
-use Rattle.std.specs.List.{list_any}
-use Rattle.std.proofs.lemmas.List.{length-append, length-reverse, reverse-append, reverse-reverse, map-append, get_or-reverse}
+use Rattle.std.proofs.Common.{◌≡◌, ◌<◌, ◌≤◌, ◌-◌, refl, sym, ◌∙◌, ap, subst, arith, inl, inr, get_or, slice_index_or, take, drop, ◌+◌}
+use Rattle.std.specs.Prelude.{All, ℕ, zero, suc, ◌⊎◌, Bool, true, false, ◌||◌, Some, List, [], ◌∷◌, ◌++◌, map, length, reverse, Contains, slice_get, unwrap_or}
+use Rattle.std.specs.List.{list_any, flat_map}
+use Rattle.std.proofs.lemmas.List.{length-append, length-map, length-reverse, take_all, reverse-append, reverse-reverse, map-append, get_or-reverse}
 use Rattle.std.proofs.lemmas.List.Elements.{Contains-append_left, Contains-append_right, Contains-append_cases, Contains-push, Contains-push_cases}
-use Rattle.std.proofs.lemmas.Option.{slice_get-get_or}
+use Rattle.std.proofs.lemmas.Option.{slice_get-get_or, slice_get-map}
+use Rattle.std.specs.Option.{option_map}
 
 -- by the two values of a test
 abbrev pub by_test : {P : Type 0} (b : Bool) → (b ≡ true → P) → (b ≡ false → P) → P
@@ -33,6 +34,22 @@ Contains-map f x [] h = absurd (Contains-none x h)
 Contains-map f x (y ∷ xs) h = elim (Contains-cases y x xs h) [
   | inl e ↦ subst (λ z. Contains (f y ∷ map f xs) (f z)) e (Contains-here (f y) (map f xs))
   | inr m ↦ Contains-there (f y) (f x) (map f xs) (Contains-map f x xs m)
+]
+
+-- what stands in the image of a member stands in the joined images
+pub Contains-flat_map : {X Y : Type 0} (f : X → List Y) (x : X) (y : Y) (xs : List X) → Contains xs x → Contains (f x) y → Contains (flat_map f xs) y
+Contains-flat_map f x y [] h m = absurd (Contains-none x h)
+Contains-flat_map f x y (z ∷ xs) h m = elim (Contains-cases z x xs h) [
+  | inl e ↦ Contains-append_left (f z) (flat_map f xs) y (subst (λ v. Contains (f v) y) (sym e) m)
+  | inr k ↦ Contains-append_right (f z) (flat_map f xs) y (Contains-flat_map f x y xs k m)
+]
+
+-- what stands in joined images stands in the image of a member
+pub Contains-flat_map_cases : {X Y : Type 0} (f : X → List Y) (y : Y) (xs : List X) → Contains (flat_map f xs) y → (x : X) × Contains xs x × Contains (f x) y
+Contains-flat_map_cases f y [] h = absurd (Contains-none y h)
+Contains-flat_map_cases f y (x ∷ xs) h = elim (Contains-append_cases (f x) (flat_map f xs) y h) [
+  | inl m ↦ (x, Contains-here x xs, m)
+  | inr m ↦ let r = Contains-flat_map_cases f y xs m in (r.0, Contains-there x r.0 xs r.1, r.2)
 ]
 
 -- what stands in a mapped list is the image of a member
@@ -83,6 +100,10 @@ list_any-found p (y ∷ xs) e = by_test (p y)
     (λ f. (y, Contains-here y xs, f))
     (λ f. let r = list_any-found p xs (or-second (p y) (list_any p xs) e f) in (r.0, Contains-there y r.0 xs r.1, r.2))
 
+-- a fact of all members holds of each
+pub All-member : {X : Type 0} (P : X → Type 0) (xs : List X) (x : X) → All P xs → Contains xs x → P x
+All-member P xs x all h = subst P h.2 (all h.0 x h.1)
+
 -- ---- places
 pub Some-same : {X : Type 0} (x y : X) → Some x ≡ Some y → x ≡ y
 Some-same x y e = ap (λ o. unwrap_or o x) e
@@ -122,6 +143,27 @@ pub map-at : {X Y : Type 0} (f : X → Y) (xs : List X) (i : ℕ) (d : X) (y : Y
 map-at f [] i d y e = absurd cc
 map-at f (x ∷ xs) zero d y e = Some-same (f x) y e
 map-at f (x ∷ xs) (suc i) d y e = map-at f xs i d y e
+
+-- a list by the thing at a place
+pub take-at : {X : Type 0} (xs : List X) (i : ℕ) (x : X) → slice_get xs i ≡ Some x → take (i + 1) xs ≡ take i xs ++ x ∷ []
+take-at [] i x e = absurd cc
+take-at (y ∷ xs) zero x e = ap (λ z. z ∷ []) (Some-same y x e)
+take-at (y ∷ xs) (suc i) x e =
+    let j : suc i + 1 ≡ suc (i + 1) = omega arith in
+    ap (λ n. take n (y ∷ xs)) j ∙ ap (λ l. y ∷ l) (take-at xs i x e)
+
+pub split-at : {X : Type 0} (xs : List X) (i : ℕ) (x : X) → slice_get xs i ≡ Some x → xs ≡ take i xs ++ x ∷ drop (i + 1) xs
+split-at [] i x e = absurd cc
+split-at (y ∷ xs) zero x e = ap (λ z. z ∷ xs) (Some-same y x e)
+split-at (y ∷ xs) (suc i) x e =
+    let j : suc i + 1 ≡ suc (i + 1) = omega arith in
+    ap (λ l. y ∷ l) (split-at xs i x e) ∙ ap (λ n. y ∷ take i xs ++ x ∷ drop n (y ∷ xs)) (sym j)
+
+pub map-place : {X Y : Type 0} (f : X → Y) (xs : List X) (i : ℕ) (x : X) → i < length xs → x ≡ slice_index_or xs i x → slice_get (map f xs) i ≡ Some (f x)
+map-place f xs i x lt e = slice_get-map f xs i ∙ ap (option_map f) (slice_get-get_or xs i x lt ∙ ap Some (sym e))
+
+pub take-map-all : {X Y : Type 0} (f : X → Y) (xs : List X) (i : ℕ) → length xs ≤ i → take i (map f xs) ≡ map f xs
+take-map-all f xs i le = take_all i (map f xs) (let e = length-map xs f in omega (arith, e, le))
 
 -- ---- lists that have each thing once
 abbrev pub Distinct : {X : Type 0} → List X → Type 0

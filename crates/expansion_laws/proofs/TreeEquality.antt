@@ -1,5 +1,5 @@
 -- The test of two trees tells whether they are one.
-use Rattle.std.proofs.Common.{◌≡◌, refl, ap, eqb-true, eq-eqb}
+use Rattle.std.proofs.Common.{◌≡◌, refl, eqb-true, eq-eqb}
 use Rattle.std.specs.Prelude.{◌==◌, ◌&&◌, Bool, true, false}
 use Rattle.orientation.specs.declared.turn.Turn.{Turn}
 use Rattle.orientation.specs.declared.turn.Turn.TheVariants.{Forward, Reversed, Internal, External}

@@ -1,0 +1,52 @@
+-- Rewriting by a bounded function: the results of a use, where a derivation of at most so many levels gives them.
+use Rattle.std.specs.Prelude.{◌≡◌, ℕ, zero, suc, Option, None, Some, List, [], ◌∷◌, ◌++◌}
+use Rattle.std.specs.Option.{option_map}
+use Rattle.location_words.specs.declared.pair.Pair.{Pair}
+use Rattle.expansion_laws.specs.Trees.{Tree, Use, a_single, origin, uses, tree_of}
+use Rattle.expansion_laws.specs.Contexts.{Context, at_root, inside, bare}
+use Rattle.expansion_laws.specs.Requests.{Request, Act, remove, replace, match_of}
+use Rattle.expansion_laws.specs.Steps.{Step, onward, new_use, root_of}
+
+-- both lists joined, where both are there
+abbrev pub joined : Option (List Use) → Option (List Use) → Option (List Use)
+joined None rest = None
+joined (Some first) None = None
+joined (Some first) (Some rest) = Some (first ++ rest)
+
+-- the results of each use, joined in order
+abbrev pub all_results : (Use → Option (List Use)) → List Use → Option (List Use)
+all_results results [] = Some []
+all_results results (u ∷ us) = joined (results u) (all_results results us)
+
+-- the use with other uses in its tree
+abbrev pub rebuilt : Use → List Use → Use
+rebuilt u below = a_single u.turn u.word (tree_of (origin u.tree) below)
+
+module _ (s : Step) (again : Context → Use → Option (List Use)) where
+  -- the results after a match, by its act, where `again` gives those of further uses
+  abbrev pub by_act : Context → Use → Option (List Pair) → Act → Option (List Use)
+  by_act c u place remove = Some []
+  by_act c u place (replace by) = all_results (again c) (onward s u.tree (new_use c u place by))
+
+  -- the results of a use by its match: with none, the use stays, and its tree's uses are rewritten in its own context
+  abbrev pub by_match : Context → Use → Option Request → Option (List Use)
+  by_match c u None = option_map (λ below. rebuilt u below ∷ []) (all_results (again (inside c u)) (uses u.tree))
+  by_match c u (Some r) = by_act c u r.place r.act
+
+-- the results of a use in a context, where a derivation of at most n levels gives them
+unfoldable pub results_within : Step → ℕ → Context → Use → Option (List Use)
+results_within s zero c u = None
+results_within s (suc n) c u = by_match s (λ d v. results_within s n d v) c u (match_of s.requests u.tree (inside c u))
+
+-- the use is rewritten into these results in the context
+abbrev pub Rewrites : Step → Context → Use → List Use → Type 0
+Rewrites s c u results = (n : ℕ) × (results_within s n c u ≡ Some results)
+
+-- the relative results of a visit: those of the forward use of its tree under no word, in a context that has the visit's
+-- accumulated turn and word
+abbrev pub RelativeResults : Step → Tree → Context → List Use → Type 0
+RelativeResults s x here results = Rewrites s here (bare x) results
+
+-- a step takes the root to a new root
+abbrev pub StepsTo : Step → Use → Use → Type 0
+StepsTo s root new = (results : List Use) × Rewrites s at_root root results × (new ≡ root_of results)

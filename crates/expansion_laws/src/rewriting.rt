@@ -1,0 +1,210 @@
+//! The rule of rewriting on plain trees: slow, and the yardstick of faster ways.
+ghost use Rattle.std.specs.Prelude.{◌≡◌, ◌∷◌, [], map, IfErr, IfOk, IsOk, OnOk};
+ghost use Rattle.orientation.specs.declared.turn.Turn;
+ghost use Rattle.expansion_laws.specs.Trees.{a_single, tree_of};
+ghost use Rattle.expansion_laws.specs.Contexts.{inside as inside_of};
+ghost use Rattle.expansion_laws.specs.Requests.{replace as replacing};
+ghost use Rattle.expansion_laws.specs.Steps.{root_of};
+ghost use Rattle.expansion_laws.specs.Rewriting.{rebuilt as rebuilt_of, StepsTo};
+ghost use Rattle.expansion_laws.specs.Plain.{shown_use};
+ghost use Rattle.expansion_laws.specs.SlowRewriting.{slow_outcome, slow_step, IsDueOutcome};
+ghost use Rattle.expansion_laws.specs.SlowParts.{context, part_of, part_of_act, part_of_all, part_of_match, part_of_rebuilt, seen_use, step_by, Gives, Refuses};
+
+use crate::fault::ExpandFault;
+use crate::moving::{Here, Rules, Seen, new_use, onward, own_use, own_uses, tested};
+use crate::plain::{Tree, TreeUse, use_of};
+use crate::requests::{SlowRequest, last_fitting};
+use location_words::Word;
+use orientation::{Kind, Turn, compose};
+use std::alloc::{AllocError, Global};
+
+/// Rewrites the root by the rule: each occurrence meets the last request that fits it, and what comes of it is rewritten again.
+///
+/// Origin `k` has the kind `kinds[k - 1]`, and any other origin is a compound. There are at most `budget` visits.
+pub fn rewrite_slow(
+    alloc: Global,
+    root: &TreeUse,
+    requests: &[SlowRequest],
+    kinds: &[Kind],
+    budget: u64,
+) -> Result<TreeUse, ExpandFault>
+    ensures ok { IfOk result (λ new. StepsTo (slow_step requests.now kinds.now) (shown_use root.now) (shown_use new)) }
+    ensures within { OnOk result (IsOk (slow_outcome (slow_step requests.now kinds.now) (shown_use root.now) budget)) }
+    ensures refused { IfErr result (λ fault. IsDueOutcome (slow_outcome (slow_step requests.now kinds.now) (shown_use root.now) budget) fault) }
+{
+    let rules = Rules {
+        alloc,
+        requests,
+        kinds,
+    };
+    let here = Here {
+        turn: Turn::Forward,
+        word: Word::identity(alloc),
+    };
+    let Ok(one) = own_use(root) else {
+        return Err(ExpandFault::NoMemory);
+    };
+    let rewritten = rewrite_use(&rules, &here, &one, budget)?;
+    match new_root(alloc, rewritten.results) {
+        Ok(new) => Ok(new),
+        Err(_) => Err(ExpandFault::NoMemory),
+    }
+}
+
+/// The one result, or a compound over all results.
+fn new_root(alloc: Global, results: Vec<TreeUse>) -> Result<TreeUse, AllocError>
+    ensures { IfOk result (λ new. shown_use new ≡ root_of (map shown_use results.items)) }
+{
+    let mut results = results;
+    if results.len() != 1 {
+        let several = compound(alloc, results)?;
+        return Ok(several);
+    }
+    match results.pop() {
+        Some(only) => Ok(only),
+        None => {
+            let none = compound(alloc, results)?;
+            Ok(none)
+        }
+    }
+}
+
+/// A compound over uses.
+fn compound(alloc: Global, results: Vec<TreeUse>) -> Result<TreeUse, AllocError>
+    ensures { IfOk result (λ new. shown_use new ≡ a_single Turn.Forward [] (tree_of 0 (map shown_use results.items))) }
+{
+    let tree = Tree {
+        origin: 0,
+        uses: results,
+    };
+    use_of(alloc, Turn::Forward, &Word::identity(alloc), tree)
+}
+
+/// The results of uses, in order, and how many visits are left.
+#[derive(Drop)]
+struct Rewritten {
+    results: Vec<TreeUse>,
+    left: u64,
+}
+
+/// Rewrites a use in a context.
+#[cycle(rewrite)]
+fn rewrite_use(rules: &Rules, here: &Here, one: &Seen, left: u64) -> Result<Rewritten, ExpandFault>
+    ensures ok { IfOk result (λ r. Gives (part_of (step_by rules.now) (context here.now) (seen_use one.now)) left (map shown_use r.results.items) r.left) }
+    ensures refused { IfErr result (λ fault. Refuses (part_of (step_by rules.now) (context here.now) (seen_use one.now)) left fault) }
+{
+    if left == 0 {
+        return Err(ExpandFault::TooBig);
+    }
+    let inside = Here {
+        turn: compose(here.turn, one.turn),
+        word: tested(&here.word, &one.word)?,
+    };
+    let matched = rewrite_matched(rules, here, &inside, one, left - 1)?;
+    Ok(matched)
+}
+
+/// Rewrites a use by its match, where its accumulated turn and word are known.
+#[cycle(rewrite)]
+fn rewrite_matched(
+    rules: &Rules,
+    here: &Here,
+    inside: &Here,
+    one: &Seen,
+    left: u64,
+) -> Result<Rewritten, ExpandFault>
+    requires { context inside.now ≡ inside_of (context here.now) (seen_use one.now) }
+    ensures ok { IfOk result (λ r. Gives (part_of_match (step_by rules.now) (context here.now) (seen_use one.now)) left (map shown_use r.results.items) r.left) }
+    ensures refused { IfErr result (λ fault. Refuses (part_of_match (step_by rules.now) (context here.now) (seen_use one.now)) left fault) }
+{
+    match last_fitting(rules.requests, one.tree, inside) {
+        None => rebuild(rules, inside, one, left),
+        Some(request) => match &request.target {
+            None => Ok(Rewritten {
+                results: Vec::new(rules.alloc),
+                left,
+            }),
+            Some(by) => replace(rules, here, one, &request.place, by, left),
+        },
+    }
+}
+
+/// A use that stays, over the results of its tree's uses.
+#[cycle(rewrite)]
+fn rebuild(rules: &Rules, inside: &Here, one: &Seen, left: u64) -> Result<Rewritten, ExpandFault>
+    ensures ok { IfOk result (λ r. Gives (part_of_rebuilt (step_by rules.now) (context inside.now) (seen_use one.now)) left (map shown_use r.results.items) r.left) }
+    ensures refused { IfErr result (λ fault. Refuses (part_of_rebuilt (step_by rules.now) (context inside.now) (seen_use one.now)) left fault) }
+{
+    let Ok(own) = own_uses(rules.alloc, one.tree) else {
+        return Err(ExpandFault::NoMemory);
+    };
+    let below = rewrite_each(rules, inside, own.as_slice(), left)?;
+    match rebuilt(rules.alloc, one, below.results) {
+        Ok(results) => Ok(Rewritten {
+            results,
+            left: below.left,
+        }),
+        Err(_) => Err(ExpandFault::NoMemory),
+    }
+}
+
+/// A use with other uses in its tree, as the one result.
+fn rebuilt(alloc: Global, one: &Seen, below: Vec<TreeUse>) -> Result<Vec<TreeUse>, AllocError>
+    ensures { IfOk result (λ results. map shown_use results.items ≡ rebuilt_of (seen_use one.now) (map shown_use below.items) ∷ []) }
+{
+    let tree = Tree {
+        origin: one.tree.origin,
+        uses: below,
+    };
+    let stays = use_of(alloc, one.turn, &one.word, tree)?;
+    let mut results = Vec::new(alloc);
+    results.push(stays)?;
+    Ok(results)
+}
+
+/// Rewrites what stands in a use's place.
+#[cycle(rewrite)]
+fn replace(
+    rules: &Rules,
+    here: &Here,
+    one: &Seen,
+    place: &Option<Word>,
+    by: &TreeUse,
+    left: u64,
+) -> Result<Rewritten, ExpandFault>
+    ensures ok { IfOk result (λ r. Gives (part_of_act (step_by rules.now) (context here.now) (seen_use one.now) place.now (replacing (shown_use by.now))) left
+        (map shown_use r.results.items) r.left) }
+    ensures refused { IfErr result (λ fault. Refuses (part_of_act (step_by rules.now) (context here.now) (seen_use one.now) place.now (replacing (shown_use by.now))) left
+        fault) }
+{
+    let new = new_use(here, one, place, by)?;
+    let next = onward(rules, one.tree, &new)?;
+    let rewritten = rewrite_each(rules, here, next.as_slice(), left)?;
+    Ok(rewritten)
+}
+
+/// Rewrites uses in one context, and joins their results.
+#[cycle(rewrite)]
+fn rewrite_each(
+    rules: &Rules,
+    here: &Here,
+    uses: &[Seen],
+    left: u64,
+) -> Result<Rewritten, ExpandFault>
+    ensures ok { IfOk result (λ r. Gives (part_of_all (step_by rules.now) (context here.now) (map seen_use uses.now)) left (map shown_use r.results.items) r.left) }
+    ensures refused { IfErr result (λ fault. Refuses (part_of_all (step_by rules.now) (context here.now) (map seen_use uses.now)) left fault) }
+{
+    let mut results = Vec::new(rules.alloc);
+    let mut rest = left;
+    for i in 0..uses.len() {
+        let mut part = rewrite_use(rules, here, &uses[i], rest)?;
+        rest = part.left;
+        if results.append(&mut part.results).is_err() {
+            return Err(ExpandFault::NoMemory);
+        }
+    }
+    Ok(Rewritten {
+        results,
+        left: rest,
+    })
+}

@@ -1,0 +1,11 @@
+//! Walks in graphs: depth first search for the first cycle, orders of finishing and ranks.
+#![tactic(auto)]
+
+mod depth_first;
+mod ranking;
+
+pub use depth_first::{Found, has_cycle, search};
+pub use ranking::ranks;
+
+#[cfg(test)]
+mod tests;
