@@ -8,4 +8,6 @@ mod faults;
 #[cfg(test)]
 mod refusals;
 #[cfg(test)]
+mod rewrites;
+#[cfg(test)]
 mod runs;

@@ -39,6 +39,25 @@ pub(crate) fn desk_with(
     Ok(MemoryDesk::new(alloc, files, failing, piece))
 }
 
+/// A desk that holds a file under the name `in` and a script under the name `script`.
+pub(crate) fn desk_of_two(
+    alloc: Global,
+    bytes: Vec<u8>,
+    lines: Vec<u8>,
+    failing: &[u64],
+    piece: usize,
+) -> Result<MemoryDesk, AllocError>
+    requires { 0 < piece }
+{
+    let file = NameText::of(String::from_str(alloc, "in")?);
+    let script = NameText::of(String::from_str(alloc, "script")?);
+    let mut files = Vec::new(alloc);
+    files.push((file, Bytes::of(bytes)))?;
+    files.push((script, Bytes::of(lines)))?;
+    let failing = failing.to_vec(alloc)?;
+    Ok(MemoryDesk::new(alloc, files, failing, piece))
+}
+
 fn command_words(alloc: Global, words: &[&str]) -> Result<CommandWords, AllocError> {
     let mut all = CommandWords::new(alloc);
     for word in words {

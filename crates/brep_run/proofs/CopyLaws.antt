@@ -9,14 +9,15 @@ use Rattle.expansion_laws.specs.Walk.{RecordsAreTrees}
 use Rattle.expansion_laws.specs.Written.{flat, origins_of}
 use Rattle.brep_run.specs.declared.file.File.{File}
 use Rattle.brep_run.specs.declared.outcome.Outcome.{Outcome}
-use Rattle.brep_run.specs.declared.outcome.Outcome.TheVariants.{Done, Usage, NotBuilt, Limit, ReadDesk, WriteDesk, NoMemory}
+use Rattle.brep_run.specs.declared.outcome.Outcome.TheVariants.{Done, Usage, NotBuilt, Script, Limit, ReadDesk, WriteDesk, NoMemory}
 use Rattle.brep_run.specs.Outcomes.{OnDone}
 use Rattle.brep_run.specs.PlainRecords.{plain_records, plain_use, expansion_of}
 use Rattle.brep_run.specs.Sound.{IsSound}
 use Rattle.brep_run.specs.Reads.{Spells}
 use Rattle.brep_run.specs.Copies.{IsTextFor, SharesEqualTrees, TextsStandForRoots}
 use Rattle.brep_run.specs.Words.{Asked, copies}
-use Rattle.brep_run.specs.Copy.{IsDue, OutWritten, IsMade, CopyExpands, CopyShares}
+use Rattle.brep_run.specs.Copy.{IsDue, OutWritten, IsMade}
+use Rattle.brep_run.specs.Runs.{Expands, Shares}
 use Rattle.brep_run.specs.ReadingLaws.{ReadingIsExact}
 
 some-same : {A : Type 0} (x y : A) → Some x ≡ Some y → x ≡ y
@@ -36,10 +37,11 @@ module _ (exact : ReadingIsExact) (stand : TextsStandForRoots) (t : Tells) (old 
       subst (λ x. IsTextFor f (expansion_of f) x) same_text (subst (λ h. IsTextFor h (expansion_of h) text0) same_file whole)
 
   pub done_stands : (asked : Asked) → asked ≡ copies source target → (o : Outcome) →
-      OnDone o ((text : List ℕ) × IsDue t old source text × OutWritten t old new target text) → OnDone o (CopyExpands t old new asked)
-  done_stands asked is Done h = subst (λ a. CopyExpands t old new a) (sym is) (text_stands h.0 h.1 h.2)
+      OnDone o ((text : List ℕ) × IsDue t old source text × OutWritten t old new target text) → OnDone o (Expands t old new asked)
+  done_stands asked is Done h = subst (λ a. Expands t old new a) (sym is) (text_stands h.0 h.1 h.2)
   done_stands asked is Usage h = tt
   done_stands asked is NotBuilt h = tt
+  done_stands asked is (Script fault) h = tt
   done_stands asked is (Limit which count) h = tt
   done_stands asked is (ReadDesk before after) h = tt
   done_stands asked is (WriteDesk before after file taken) h = tt
@@ -58,21 +60,23 @@ module _ (g : File) (root : Use) (are : RecordsAreTrees (plain_records g)) (in_f
         (λ same. apart (origin x) (origin y) x_is.0 y_is.0 (ap relabel (sym x_is.1) ∙ same ∙ ap relabel y_is.1)),
       )
 
-module _ (exact : ReadingIsExact) (are : (g : File) → IsSound g → RecordsAreTrees (plain_records g)) (t : Tells) (old new : Shown) (source target : List ℕ) where
-  shared_in : (f g : File) (text : List ℕ) → IsTextFor f (expansion_of f) text → Spells text g → SharesEqualTrees (expansion_of f) g
-  shared_in f g text whole spells =
+module _ (are : (g : File) → IsSound g → RecordsAreTrees (plain_records g)) where
+  pub shared_in : (f : File) (root : Use) (g : File) (text : List ℕ) → IsTextFor f root text → Spells text g → SharesEqualTrees root g
+  shared_in f root g text whole spells =
       let first = whole.spelled in
-      let shared : SharesEqualTrees (expansion_of f) first.0 =
-      equal_trees_share first.0 (expansion_of f) (are first.0 first.1.sound)
+      let shared : SharesEqualTrees root first.0 =
+      equal_trees_share first.0 root (are first.0 first.1.sound)
       (subst (λ n. IsNumberOf n first.0.root.number) (sym (length-map first.0.records (λ r. map plain_use r.uses))) first.1.sound.root)
       first.2.shared.apart in
-      subst (λ h. SharesEqualTrees (expansion_of f) h) (whole.one first.0 g first.1 spells) shared
+      subst (λ h. SharesEqualTrees root h) (whole.one first.0 g first.1 spells) shared
 
-  pub done_shares : (asked : Asked) → asked ≡ copies source target → (o : Outcome) → OnDone o (CopyExpands t old new asked) → OnDone o (CopyShares t old new asked)
-  done_shares asked is Done h = subst (λ a. CopyShares t old new a) (sym is)
-      (λ bytes text f g made spells. shared_in f g text (subst (λ a. CopyExpands t old new a) is h bytes text f made) spells)
+module _ (exact : ReadingIsExact) (are : (g : File) → IsSound g → RecordsAreTrees (plain_records g)) (t : Tells) (old new : Shown) (source target : List ℕ) where
+  pub done_shares : (asked : Asked) → asked ≡ copies source target → (o : Outcome) → OnDone o (Expands t old new asked) → OnDone o (Shares t old new asked)
+  done_shares asked is Done h = subst (λ a. Shares t old new a) (sym is)
+      (λ bytes text f g made spells. shared_in are f (expansion_of f) g text (subst (λ a. Expands t old new a) is h bytes text f made) spells)
   done_shares asked is Usage h = tt
   done_shares asked is NotBuilt h = tt
+  done_shares asked is (Script fault) h = tt
   done_shares asked is (Limit which count) h = tt
   done_shares asked is (ReadDesk before after) h = tt
   done_shares asked is (WriteDesk before after file taken) h = tt

@@ -39,19 +39,19 @@ kind-chosen true r = refl
 kind-chosen false r = refl
 
 module _ (f : File) where
-  abbrev uses_of_record : Record → List NumberedUse
+  abbrev pub uses_of_record : Record → List NumberedUse
   uses_of_record r = map plain_use r.uses
 
-  count-plain : length (plain_records f) ≡ length f.records
+  pub count-plain : length (plain_records f) ≡ length f.records
   count-plain = length-map f.records uses_of_record
 
-  record-at : (k : ℕ) → IsNumberOf (length f.records) k → (r : Record) × (record_of f k ≡ Some r)
+  pub record-at : (k : ℕ) → IsNumberOf (length f.records) k → (r : Record) × (record_of f k ≡ Some r)
   record-at k n = (let low = n.0 in let high = n.1 in at_place f.records (length f.records - k) (omega (arith, low, high)))
 
-  plain-at : (k : ℕ) (r : Record) → record_of f k ≡ Some r → slice_get (plain_records f) (length (plain_records f) - k) ≡ Some (uses_of_record r)
+  pub plain-at : (k : ℕ) (r : Record) → record_of f k ≡ Some r → slice_get (plain_records f) (length (plain_records f) - k) ≡ Some (uses_of_record r)
   plain-at k r e = map-from_end uses_of_record f.records k r e
 
-  kind-for : (x : Tree) (r : Record) → record_of f (origin x) ≡ Some r → (head_for f x).kind ≡ r.head.kind
+  pub kind-for : (x : Tree) (r : Record) → record_of f (origin x) ≡ Some r → (head_for f x).kind ≡ r.head.kind
   kind-for x r e =
       ap (λ (o : Option Record). (option_map_or (λ (s : Record). if tree_eq x (tree_of_record f (origin x)) then s.head else rebuilt s.head) o made_head).kind) e
       ∙ kind-chosen (tree_eq x (tree_of_record f (origin x))) r
@@ -77,11 +77,11 @@ module _ (f : File) where
 
     module _ (walk : RecordsAreTrees (plain_records f)) where
       -- what stands in the expansion is the tree of a record
-      record Stands (x : Tree) : Type 0 where
+      pub record Stands (x : Tree) : Type 0 where
         pub number : IsNumberOf (length f.records) (origin x)
         pub tree : x ≡ tree_of_record f (origin x)
 
-      stands-below : (x : Tree) → Contains (subtrees (expansion_of f).tree) x → Stands x
+      pub stands-below : (x : Tree) → Contains (subtrees (expansion_of f).tree) x → Stands x
       stands-below x m =
           let below = walk.below f.root.number x (file-sound.names_root) m in
           record { number = subst (λ j. IsNumberOf j (origin x)) count-plain below.0; tree = below.1 }

@@ -55,9 +55,9 @@ module _ (f : File) (tell : NumbersTell f) (numbers places : List ℕ) (placed :
       (λ e. let a = placed.placed i lt in let b = ap (λ m. slice_index places (m - 1)) e in omega (arith, a, b, zero_place))
 
   -- a number that stands at a place
-  at_place : (k : ℕ) → IsNumberOf (length f.records) k → 0 < slice_index places (k - 1) →
+  pub place_found : (k : ℕ) → IsNumberOf (length f.records) k → 0 < slice_index places (k - 1) →
       (slice_index places (k - 1) - 1 < length numbers) × (slice_index numbers (slice_index places (k - 1) - 1) ≡ k)
-  at_place k n above =
+  place_found k n above =
       let low = n.0 in let high = n.1 in
       let small : k - 1 < length f.records = omega (arith, low, high) in
       let a = placed.within (k - 1) small in
@@ -66,7 +66,7 @@ module _ (f : File) (tell : NumbersTell f) (numbers places : List ℕ) (placed :
 
   pub completes_done : (k : ℕ) → IsNumberOf (length f.records) k → 0 < slice_index places (k - 1) → Completes f k numbers numbers
   completes_done k n above =
-      let p = at_place k n above in
+      let p = place_found k n above in
       let test : tree_eq (tree_of_record f k) (tree_of_record f (slice_index numbers (slice_index places (k - 1) - 1))) ≡ true =
       ap (λ m. tree_eq (tree_of_record f k) (tree_of_record f m)) p.1 ∙ same_tree f tell k in
       record {
@@ -89,7 +89,7 @@ module _ (f : File) (tell : NumbersTell f) (numbers places : List ℕ) (placed :
       (λ e. rw e (number_none (tree_of_record f) (tree_of_record f k) numbers (none_is k n (omega (arith, eqb-true _ _ e)))))
       (λ e. rw e
       (let above : 0 < slice_index places (k - 1) = (let differ = eqb-false (slice_index places (k - 1)) 0 e in omega (arith, differ)) in
-      let p = at_place k n above in
+      let p = place_found k n above in
       let within = p.0 in
       let test : tree_eq (tree_of_record f k) (tree_of_record f (slice_index numbers (slice_index places (k - 1) - 1))) ≡ true =
       ap (λ m. tree_eq (tree_of_record f k) (tree_of_record f m)) p.1 ∙ same_tree f tell k in

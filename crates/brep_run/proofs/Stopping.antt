@@ -3,7 +3,7 @@ use Rattle.std.proofs.Common.{◌≡◌, ℕ, inl, inr, List, Some, take, false,
 use Rattle.brep_desk.specs.Shown.{Shown, Tells, ChangesOnly}
 use Rattle.brep_desk.specs.Whole.{NothingWritten}
 use Rattle.brep_run.specs.declared.outcome.Outcome.{Outcome}
-use Rattle.brep_run.specs.declared.outcome.Outcome.TheVariants.{Done, Usage, NotBuilt, Limit, ReadDesk, WriteDesk, NoMemory}
+use Rattle.brep_run.specs.declared.outcome.Outcome.TheVariants.{Done, Usage, NotBuilt, Script, Limit, ReadDesk, WriteDesk, NoMemory}
 use Rattle.brep_run.specs.Outcomes.{IfWriteDesk}
 use Rattle.brep_run.specs.Copy.{PrefixWritten, IsDue}
 
@@ -27,6 +27,7 @@ module _ (t : Tells) (a b d : Shown) (source name text : List ℕ) (quiet : Noth
   stopped_after due Done h = tt
   stopped_after due Usage h = tt
   stopped_after due NotBuilt h = tt
+  stopped_after due (Script fault) h = tt
   stopped_after due (Limit which count) h = tt
   stopped_after due (ReadDesk before after) h = tt
   stopped_after due (WriteDesk before after file taken) h = (h.0, (text, due, prefix_after taken h.1))

@@ -28,7 +28,7 @@ use Rattle.brep_run.proofs.NumberedRecords.{map-map, map-from_end, names_of-numb
 abbrev pub perhaps : Bool → Head → Head
 perhaps b h = if b then h else rebuilt h
 
-shaped-perhaps : (b : Bool) (h : Head) → IsShaped h.kind h.payload → IsShaped (perhaps b h).kind (perhaps b h).payload
+pub shaped-perhaps : (b : Bool) (h : Head) → IsShaped h.kind h.payload → IsShaped (perhaps b h).kind (perhaps b h).payload
 shaped-perhaps true h s = s
 shaped-perhaps false h s = s
 

@@ -64,6 +64,14 @@ layout_text version records root is =
     ∙ joined (version_line 1) (lines_text table_lines) (codes "TShapes ") (decimal (length records) ++ 10 ∷ (lines_text (flat_map record_lines records) ++ last))
     ∙ ap (λ t. t ++ (decimal (length records) ++ 10 ∷ (lines_text (flat_map record_lines records) ++ last))) before_count_is
 
+-- the tree of a record has the record's own head
+pub head_is : (f : File) → NumbersTell f → (k : ℕ) (r : Record) → IsNumberOf (length f.records) k → record_of f k ≡ Some r → head_for f (tree_of_record f k) ≡ r.head
+head_is f tell k r n is =
+    let x : Tree = tree_of_record f k in
+    ap (λ j. option_map_or (λ s. if tree_eq x (tree_of_record f j) then s.head else rebuilt s.head) (record_of f j) made_head) (tell.trees.origins k (plain_number f k n))
+    ∙ ap (λ b. option_map_or (λ s. if b then s.head else rebuilt s.head) (record_of f k) made_head) (same_tree f tell k)
+    ∙ ap (λ o. option_map_or (λ s. s.head) o made_head) is
+
 module _ (f : File) (tell : NumbersTell f) (numbers places : List ℕ) (placed : ArePlaced (length f.records) numbers places) where
   pub uses_placed : (k : ℕ) (r : Record) → IsNumberOf (length f.records) k → record_of f k ≡ Some r → All (λ u. IsNumberOf (length places) u.number) r.uses
   uses_placed k r n is i d lt =
@@ -74,14 +82,6 @@ module _ (f : File) (tell : NumbersTell f) (numbers places : List ℕ) (placed :
   pub named_item : (items : List ℕ) → items ≡ numbers → (i : ℕ) → i < length items → IsNumberOf (length f.records) (slice_index items i)
   named_item items same i lt =
       subst (λ l. IsNumberOf (length f.records) (slice_index l i)) (sym same) (placed.named i (subst (λ (l : List ℕ). i < length l) same lt))
-
-  -- the tree of a record has the record's own head
-  head_is : (k : ℕ) (r : Record) → IsNumberOf (length f.records) k → record_of f k ≡ Some r → head_for f (tree_of_record f k) ≡ r.head
-  head_is k r n is =
-      let x : Tree = tree_of_record f k in
-      ap (λ j. option_map_or (λ s. if tree_eq x (tree_of_record f j) then s.head else rebuilt s.head) (record_of f j) made_head) (tell.trees.origins k (plain_number f k n))
-      ∙ ap (λ b. option_map_or (λ s. if b then s.head else rebuilt s.head) (record_of f k) made_head) (same_tree f tell k)
-      ∙ ap (λ o. option_map_or (λ s. s.head) o made_head) is
 
   use_is : (u : FileUse) → IsNumberOf (length f.records) u.number → written_use (map (tree_of_record f) numbers) (use_of_tree f u) ≡ renumbered_use numbers places u
   use_is u n = ap (λ m. record { turn = u.turn; number = m; location = 0 }) (number_of_tree f tell numbers places placed u.number n)
@@ -98,7 +98,7 @@ module _ (f : File) (tell : NumbersTell f) (numbers places : List ℕ) (placed :
   record_is : (k : ℕ) (r : Record) → IsNumberOf (length f.records) k → record_of f k ≡ Some r →
       written_record f (map (tree_of_record f) numbers) (tree_of_record f k) ≡ renumbered numbers places r
   record_is k r n is =
-      let heads = head_is k r n is in let all_uses = uses_are k r n is in
+      let heads = head_is f tell k r n is in let all_uses = uses_are k r n is in
       λ i. record { head = heads i; uses = all_uses i }
 
   lines_are : (k : ℕ) → IsNumberOf (length f.records) k →

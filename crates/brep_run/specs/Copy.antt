@@ -1,13 +1,9 @@
--- What a run of `copy` does to the desk, and when it answers what.
+-- What stands after a copy, whole or stopped.
 use Rattle.std.specs.Prelude.{ℕ, ◌≡◌, ◌⊎◌, ◌+◌, ◌≤◌, IsTrue, true, false, List, length, take, Some, None}
 use Rattle.brep_desk.specs.Shown.{Shown, Tells, ChangesOnly}
-use Rattle.brep_desk.specs.Strays.{IsHeldIfTold}
-use Rattle.brep_desk.specs.Whole.{NoMoreOpen, IsLonger}
+use Rattle.brep_desk.specs.Whole.{NoMoreOpen}
 use Rattle.brep_desk.specs.Causes.{Rose}
 use Rattle.brep_run.specs.declared.file.File.{File}
-use Rattle.brep_run.specs.declared.outcome.LimitKind.{LimitKind}
-use Rattle.brep_run.specs.declared.outcome.LimitKind.TheVariants.{FileBytes}
-use Rattle.brep_run.specs.Words.{Asked, copies, later, wrong}
 use Rattle.brep_run.specs.PlainRecords.{expansion_of}
 use Rattle.brep_run.specs.Reads.{Reads, Spells}
 use Rattle.brep_run.specs.WrittenFile.{text_of}
@@ -54,12 +50,6 @@ pub record Holds (old : Shown) (source bytes : List ℕ) : Type 0 where
 abbrev pub IsDue : Tells → Shown → List ℕ → List ℕ → Type 0
 IsDue t old source text = IsTrue t.held → (bytes : List ℕ) × (f : File) × Holds old source bytes × IsCopyOf bytes text f
 
--- The copy stands under the target, whole and ended.
-abbrev pub IsCopied : Tells → Shown → Shown → Asked → Type 0
-IsCopied t old new (copies source target) = (text : List ℕ) × IsDue t old source text × OutWritten t old new target text
-IsCopied t old new later = ⊥
-IsCopied t old new wrong = ⊥
-
 -- what stands for a copy: the bytes that were held, the text that was written, and the file that the bytes are
 pub record IsMade (t : Tells) (old new : Shown) (source target bytes text : List ℕ) (f : File) : Type 0 where
   pub told : IsTrue t.held × IsTrue t.written
@@ -68,62 +58,17 @@ pub record IsMade (t : Tells) (old new : Shown) (source target bytes text : List
   pub written : new.written target ≡ Some text
 
 -- The written text spells one file, whose full expansion is the dressed expansion of the file that was read.
-abbrev pub CopyExpands : Tells → Shown → Shown → Asked → Type 0
-CopyExpands t old new (copies source target) =
+abbrev pub CopyExpands : Tells → Shown → Shown → List ℕ → List ℕ → Type 0
+CopyExpands t old new source target =
     (bytes text : List ℕ) (f : File) → IsMade t old new source target bytes text f → IsTextFor f (expansion_of f) text
-CopyExpands t old new later = ⊥
-CopyExpands t old new wrong = ⊥
 
 -- In the file that the written text spells two occurrences go through one record exactly where their trees are equal.
-abbrev pub CopyShares : Tells → Shown → Shown → Asked → Type 0
-CopyShares t old new (copies source target) =
+abbrev pub CopyShares : Tells → Shown → Shown → List ℕ → List ℕ → Type 0
+CopyShares t old new source target =
     (bytes text : List ℕ) (f g : File) → IsMade t old new source target bytes text f → Spells text g → SharesEqualTrees (expansion_of f) g
-CopyShares t old new later = ⊥
-CopyShares t old new wrong = ⊥
-
--- The writing of the copy was stopped by a fault.
-abbrev pub IsStopped : Tells → Shown → Shown → Asked → ℕ → ℕ → Type 0
-IsStopped t old new (copies source target) file taken = (file ≡ 1) × ((text : List ℕ) × IsDue t old source text × PrefixWritten t old new target text taken)
-IsStopped t old new later file taken = ⊥
-IsStopped t old new wrong file taken = ⊥
-
--- The command isn't built, or what the source holds is no file of the form that is.
-abbrev pub IsUnbuilt : Tells → Shown → Asked → Type 0
-IsUnbuilt t old (copies source target) = IsTrue t.held → (bytes : List ℕ) × Holds old source bytes × ((f : File) → Reads bytes f → ⊥)
-IsUnbuilt t old later = Unit {0}
-IsUnbuilt t old wrong = ⊥
 
 -- the counts of a fault: after the one at entry, and up to the one at exit
 pub record Counts (entry exit before after : ℕ) : Type 0 where
   pub from : entry ≤ before
   pub to : after ≡ exit
   pub rose : Rose before after
-
--- something is read
-abbrev pub HasInput : Asked → Type 0
-HasInput (copies source target) = Unit {0}
-HasInput later = ⊥
-HasInput wrong = ⊥
-
--- what is read is held, where that is told
-abbrev pub HoldsInput : Tells → Shown → Asked → Type 0
-HoldsInput t old (copies source target) = IsHeldIfTold t old source
-HoldsInput t old later = Unit {0}
-HoldsInput t old wrong = Unit {0}
-
-abbrev pub IsTooLong : Tells → Shown → Asked → LimitKind → ℕ → Type 0
-IsTooLong t old (copies source target) which count = (which ≡ FileBytes) × (count ≡ most_bytes + 1) × IsLonger t old source most_bytes
-IsTooLong t old later which count = ⊥
-IsTooLong t old wrong which count = ⊥
-
--- the source holds a file that is read
-abbrev pub IsReady : Tells → Shown → Asked → Type 0
-IsReady t old (copies source target) = IsTrue t.held × ((bytes : List ℕ) × (f : File) × Holds old source bytes × Reads bytes f)
-IsReady t old later = ⊥
-IsReady t old wrong = ⊥
-
--- the source isn't held
-abbrev pub IsMissing : Tells → Shown → Asked → Type 0
-IsMissing t old (copies source target) = IsTrue t.held × (old.held source ≡ None)
-IsMissing t old later = ⊥
-IsMissing t old wrong = ⊥

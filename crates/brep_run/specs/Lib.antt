@@ -15,4 +15,9 @@ pub mod Asking
 pub mod Outcomes
 pub mod Messages
 pub mod Copy
+pub mod Script
 pub mod Completion
+pub mod Remaining
+pub mod Removal
+pub mod Rewrite
+pub mod Runs

@@ -2,7 +2,8 @@
 use Rattle.std.specs.Prelude.{ℕ}
 use Rattle.brep_run.specs.declared.outcome.Outcome.{Outcome}
 use Rattle.brep_run.specs.declared.outcome.LimitKind.{LimitKind}
-use Rattle.brep_run.specs.declared.outcome.Outcome.TheVariants.{Done, Usage, NotBuilt, Limit, ReadDesk, WriteDesk, NoMemory}
+use Rattle.brep_run.specs.declared.outcome.ScriptFault.{ScriptFault}
+use Rattle.brep_run.specs.declared.outcome.Outcome.TheVariants.{Done, Usage, NotBuilt, Script, Limit, ReadDesk, WriteDesk, NoMemory}
 
 abbrev pub OnDone : Outcome → Type 0 → Type 0
 OnDone Done P = P
@@ -15,6 +16,10 @@ OnUsage _ P = Unit {0}
 abbrev pub OnNotBuilt : Outcome → Type 0 → Type 0
 OnNotBuilt NotBuilt P = P
 OnNotBuilt _ P = Unit {0}
+
+abbrev pub IfScript : Outcome → (ScriptFault → Type 0) → Type 0
+IfScript (Script fault) P = P fault
+IfScript _ P = Unit {0}
 
 abbrev pub IfLimit : Outcome → (LimitKind → ℕ → Type 0) → Type 0
 IfLimit (Limit which count) P = P which count

@@ -3,7 +3,7 @@ ghost use Rattle.std.specs.Prelude.{◌≡◌, ◌≤◌, ◌+◌, ℕ, List, If
 ghost use Rattle.brep_desk.specs.Strays.{KeepsStrays, IsHeldIfTold};
 ghost use Rattle.brep_desk.specs.Whole.{NothingWritten, IsLonger};
 ghost use Rattle.brep_run.specs.declared.file.File.{File};
-ghost use Rattle.brep_run.specs.Outcomes.{OnDone, OnUsage, OnNotBuilt, IfLimit, IfReadDesk, IfWriteDesk, UnlessWriting};
+ghost use Rattle.brep_run.specs.Outcomes.{OnDone, OnUsage, OnNotBuilt, IfLimit, IfScript, IfReadDesk, IfWriteDesk, UnlessWriting};
 ghost use Rattle.brep_run.specs.Reads.{Reads};
 ghost use Rattle.brep_run.specs.Copy.{Counts, OutWritten, PrefixWritten, IsCopyOf, IsDue, Holds, most_bytes};
 
@@ -16,7 +16,7 @@ use brep_desk::{Desk, ReadAll, read_all, write_all};
 use std::alloc::Global;
 
 /// The greatest number of bytes of a file that is read.
-const FILE_BYTES: u64 = 67_108_864;
+pub(crate) const FILE_BYTES: u64 = 67_108_864;
 
 /// The text of the copy of a file's bytes, which are let go as soon as they are read.
 fn text_for(alloc: Global, bytes: Vec<u8>) -> Result<Vec<u8>, Stop>
@@ -36,7 +36,8 @@ fn text_for(alloc: Global, bytes: Vec<u8>) -> Result<Vec<u8>, Stop>
 }
 
 /// Writes the text under the name, whole and ended.
-fn write_out<D: Desk>(desk: &mut D, target: &str, text: &[u8]) -> Outcome
+pub(crate) fn write_out<D: Desk>(desk: &mut D, target: &str, text: &[u8]) -> Outcome
+    ensures later { D.faults desk.old ≤ D.faults desk.new }
     ensures done { OnDone result (OutWritten D.tells (D.shows desk.old) (D.shows desk.new) target.now text.now) }
     ensures stopped { IfWriteDesk result (λ b a file taken. (file ≡ 1) × PrefixWritten D.tells (D.shows desk.old) (D.shows desk.new) target.now text.now taken) }
     ensures counts { IfWriteDesk result (λ b a file taken. Counts (D.faults desk.old) (D.faults desk.new) b a) }
@@ -85,6 +86,7 @@ pub(crate) fn copy<D: Desk>(alloc: Global, desk: &mut D, source: &str, target: &
     ensures read_counts { IfReadDesk result (λ b a. Counts (D.faults desk.old) (D.faults desk.new) b a) }
     ensures limit { IfLimit result (λ which count. (which ≡ LimitKind.FileBytes) × (count ≡ most_bytes + 1) × IsLonger D.tells (D.shows desk.old) source.now most_bytes) }
     ensures not_built { OnNotBuilt result (IsTrue D.tells.held → (bytes : List ℕ) × Holds (D.shows desk.old) source.now bytes × ((f : File) → Reads bytes f → ⊥)) }
+    ensures script { IfScript result (λ fault. ⊥) }
     ensures usage { OnUsage result ⊥ }
     ensures quiet { UnlessWriting result (NothingWritten D.tells (D.shows desk.old) (D.shows desk.new)) }
     ensures strays { IsHeldIfTold D.tells (D.shows desk.old) source.now → KeepsStrays D.tells (D.shows desk.old) (D.shows desk.new) }

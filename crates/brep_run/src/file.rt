@@ -1,6 +1,8 @@
 //! A file as a value: its records and its root use, by the BREP format's sections.
+ghost use Rattle.brep_run.specs.Remaining.{kept_uses, mark_of};
 ghost use Rattle.std.specs.Prelude.{◌≡◌, [], ◌∷◌, ◌++◌, length, OnOk, OnErr, IsTrue, IfSome, IfNone, ◌↔◌, ◌<◌, ◌≤◌, slice_get, Some};
 
+use crate::removal::is_marked;
 use brep_tokens::Decimals;
 use orientation::{Kind, Turn};
 use std::alloc::{AllocError, Global};
@@ -74,6 +76,14 @@ impl FileUses {
         ensures { result.now ≡ self.now }
     {
         &self.items
+    }
+
+    /// Leaves out the uses of the records that are marked.
+    pub(crate) fn leave_out(&mut self, marks: &[bool])
+        ensures { self.new ≡ kept_uses (mark_of marks.now) self.old }
+    {
+        self.items
+            .retain(|used| !is_marked(marks, used.number as usize));
     }
 }
 
@@ -177,6 +187,20 @@ impl Records {
         ensures { result.now ≡ self.now }
     {
         &self.items
+    }
+
+    /// The records as a vector, in file order.
+    pub(crate) fn into_vec(self) -> Vec<Record>
+        ensures { result.items ≡ self }
+    {
+        self.items
+    }
+
+    /// The records of a vector, which is in file order.
+    pub(crate) fn from_vec(items: Vec<Record>) -> Records
+        ensures { result ≡ items.items }
+    {
+        Records { items }
     }
 }
 

@@ -5,19 +5,39 @@ ghost use Rattle.brep_run.specs.Messages.{status_of, message_of};
 use std::alloc::{AllocError, Global};
 use std::marker::Model;
 
-/// A quantity with a limit. `FileBytes` is the number of bytes of the file that is read.
+/// A quantity with a limit: the number of bytes of the file that is read, and those of bytes and of lines of its script.
 #[derive(Clone, Copy, Debug, PartialEq, Eq)]
 pub enum LimitKind {
     FileBytes,
+    ScriptBytes,
+    ScriptLines,
+}
+
+/// Why a line of a script is refused. At `NoSuchShape`, `first` is the number that it names, and `second` how many records
+/// the file has.
+#[derive(Clone, Copy, Debug, PartialEq, Eq)]
+pub enum ScriptCode {
+    NoSuchShape,
+}
+
+/// A line of a script that is refused, by its number from 1 on.
+#[derive(Clone, Copy, Debug, PartialEq, Eq)]
+pub struct ScriptFault {
+    pub line: u64,
+    pub code: ScriptCode,
+    pub first: u64,
+    pub second: u64,
 }
 
 /// What a run answers. The counts of a fault are those of the desk: at the last look before the calls that failed, and at
-/// the end. In `WriteDesk`, `file` is 1 for the first output, and `taken` is how many bytes of it the desk took.
+/// the end. In `WriteDesk`, `file` is 1 for the first output and 2 for the history, and `taken` is how many bytes of it the
+/// desk took, or the last u64 where they are more.
 #[derive(Clone, Copy, Debug, PartialEq, Eq)]
 pub enum Outcome {
     Done,
     Usage,
     NotBuilt,
+    Script(ScriptFault),
     Limit {
         which: LimitKind,
         count: u128,
@@ -69,6 +89,7 @@ impl Outcome {
         match self {
             Outcome::Done => 0,
             Outcome::Usage => 2,
+            Outcome::Script(_) => 4,
             Outcome::Limit { .. } => 6,
             Outcome::ReadDesk { .. } => 7,
             Outcome::WriteDesk { .. } => 8,
@@ -93,6 +114,28 @@ impl Outcome {
                 count,
             } => Ok(Message {
                 text: format!(in alloc; "limit file-bytes {count}")?,
+            }),
+            Outcome::Limit {
+                which: LimitKind::ScriptBytes,
+                count,
+            } => Ok(Message {
+                text: format!(in alloc; "limit script-bytes {count}")?,
+            }),
+            Outcome::Limit {
+                which: LimitKind::ScriptLines,
+                count,
+            } => Ok(Message {
+                text: format!(in alloc; "limit script-lines {count}")?,
+            }),
+            Outcome::Script(
+                ScriptFault {
+                    line,
+                    code: ScriptCode::NoSuchShape,
+                    first,
+                    second,
+                },
+            ) => Ok(Message {
+                text: format!(in alloc; "script line {line} no-such-shape {first} {second}")?,
             }),
             Outcome::ReadDesk { before, after } => Ok(Message {
                 text: format!(in alloc; "read fault {before} {after}")?,

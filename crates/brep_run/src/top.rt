@@ -4,12 +4,14 @@ ghost use Rattle.brep_desk.specs.Strays.{KeepsStrays};
 ghost use Rattle.brep_desk.specs.Whole.{NothingWritten};
 ghost use Rattle.brep_desk.specs.Causes.{Rose};
 ghost use Rattle.brep_run.specs.Words.{Asked, wrong, later, asked_of};
-ghost use Rattle.brep_run.specs.Outcomes.{OnDone, OnUsage, OnNotBuilt, IfLimit, IfReadDesk, IfWriteDesk, UnlessWriting, IsDoneOrNoMemory, IsReadDeskOrNoMemory};
-ghost use Rattle.brep_run.specs.Copy.{IsCopied, CopyExpands, CopyShares, IsStopped, IsUnbuilt, Counts, HasInput, HoldsInput, IsTooLong, IsReady, IsMissing};
+ghost use Rattle.brep_run.specs.Outcomes.{OnDone, OnUsage, OnNotBuilt, IfLimit, IfScript, IfReadDesk, IfWriteDesk, UnlessWriting, IsDoneOrNoMemory, IsReadDeskOrNoMemory};
+ghost use Rattle.brep_run.specs.Copy.{Counts};
+ghost use Rattle.brep_run.specs.Runs.{IsFinished, Expands, Shares, IsStopped, IsUnbuilt, IsLineRefused, HasInput, HoldsInput, IsTooLong, IsReady, IsMissing};
 
 use crate::copy::copy;
 use crate::laws::{reading_is_exact, texts_stand_for_roots};
 use crate::outcome::Outcome;
+use crate::rewrite::rewrite;
 use crate::words::{Request, asked};
 use brep_desk::{CommandWords, Desk, Steps};
 use expansion_laws::laws::records_are_trees;
@@ -17,24 +19,26 @@ use std::alloc::Global;
 use std::sync::ledger::Ledger;
 
 /// Does all that the program does, for the words after its name: `copy IN OUT` reads the file IN and writes it to OUT by
-/// the written layout. Names are names of the desk; `-` may be both.
+/// the written layout; `rewrite IN SCRIPT OUT HIST` reads the file IN, removes the shapes that SCRIPT names, and writes
+/// what remains to OUT and the history of the removal to HIST. Names are names of the desk; `-` may be read and written.
 pub fn run<D: Desk, L: Ledger>(
     alloc: Global,
     words: &CommandWords,
     desk: &mut D,
     steps: &mut Steps<L>,
 ) -> Outcome
-    // Done: the text due stands whole under OUT; it spells one file, which expands to the input's dressed expansion; and
+    // Done: the texts due stand whole under their names; OUT spells one file, which expands to the dressed root that is due; and
     // in that file two occurrences go through one record exactly where their trees are equal.
-    ensures done { OnDone result (IsCopied D.tells (D.shows desk.old) (D.shows desk.new) (asked_of words.now)) }
-    ensures expands { OnDone result (CopyExpands D.tells (D.shows desk.old) (D.shows desk.new) (asked_of words.now)) }
-    ensures shares { OnDone result (CopyShares D.tells (D.shows desk.old) (D.shows desk.new) (asked_of words.now)) }
+    ensures done { OnDone result (IsFinished D.tells (D.shows desk.old) (D.shows desk.new) (asked_of words.now)) }
+    ensures expands { OnDone result (Expands D.tells (D.shows desk.old) (D.shows desk.new) (asked_of words.now)) }
+    ensures shares { OnDone result (Shares D.tells (D.shows desk.old) (D.shows desk.new) (asked_of words.now)) }
 
     // When each other answer comes.
     ensures usage { OnUsage result (asked_of words.now ≡ wrong) }
     ensures usage_due { asked_of words.now ≡ wrong → result ≡ Outcome.Usage }
     ensures not_built { OnNotBuilt result (IsUnbuilt D.tells (D.shows desk.old) (asked_of words.now)) }
     ensures not_built_due { asked_of words.now ≡ later → result ≡ Outcome.NotBuilt }
+    ensures script { IfScript result (λ fault. IsLineRefused D.tells (D.shows desk.old) (asked_of words.now) fault) }
     ensures limit { IfLimit result (λ which count. IsTooLong D.tells (D.shows desk.old) (asked_of words.now) which count) }
     ensures read { IfReadDesk result (λ b a. Counts (D.faults desk.old) (D.faults desk.new) b a × HasInput (asked_of words.now)) }
     ensures write { IfWriteDesk result (λ b a file taken. Counts (D.faults desk.old) (D.faults desk.new) b a) }
@@ -58,5 +62,11 @@ pub fn run<D: Desk, L: Ledger>(
         Request::Wrong => Outcome::Usage,
         Request::Later => Outcome::NotBuilt,
         Request::Copy { source, target } => copy(alloc, desk, source, target),
+        Request::Rewrite {
+            source,
+            script,
+            target,
+            history,
+        } => rewrite(alloc, desk, source, script, target, history),
     }
 }

@@ -50,7 +50,12 @@ fn push_uses(text: &mut Vec<u8>, uses: &[FileUse], order: &Order) -> Result<(), 
         ++ flat_map (λ u. join_with_byte 32 (spell_use (renumbered_use order.now.numbers.items order.now.places.items u)) ++ 32 ∷ []) uses.now) }
 {
     for used in uses {
-        push_use(text, used.turn, order.new_number(used.number), b' ')?;
+        push_use(
+            text,
+            used.turn,
+            order.new_number(used.number as usize),
+            b' ',
+        )?;
     }
     Ok(())
 }

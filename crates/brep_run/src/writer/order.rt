@@ -1,8 +1,9 @@
 //! The order in which records are written.
 ghost use Rattle.brep_run.specs.Completion.{ArePlaced, Completes, FirstStay, NumbersTell, new_number};
 ghost use Rattle.brep_run.specs.PlainRecords.{record_of};
+ghost use Rattle.brep_run.specs.Remaining.{has_place};
 ghost use Rattle.expansion_laws.specs.Expansion.{IsNumberOf};
-ghost use Rattle.std.specs.Prelude.{◌≡◌, ◌∷◌, ◌++◌, ◌+◌, ◌-◌, ◌==◌, not, IfOk, OnOk, Some, [], length, slice_index, slice_set};
+ghost use Rattle.std.specs.Prelude.{◌≡◌, ◌∷◌, ◌++◌, ◌+◌, ◌-◌, IfOk, OnOk, Some, [], length, slice_index, slice_set};
 
 use crate::file::{File, Record};
 use std::alloc::{AllocError, Global};
@@ -16,16 +17,16 @@ pub(crate) struct Order {
 }
 
 /// The record with a number.
-pub(crate) fn record_at(file: &File, number: u32) -> &Record
+pub(crate) fn record_at(file: &File, number: usize) -> &Record
     requires { IsNumberOf (length file.now.records) number }
     ensures { record_of file.now number ≡ Some result.now }
 {
-    &file.records.as_slice()[file.records.len() - number as usize]
+    &file.records.as_slice()[file.records.len() - number]
 }
 
 impl Order {
     /// No records yet, of so many.
-    fn new(alloc: Global, records: usize) -> Result<Order, AllocError>
+    pub(crate) fn new(alloc: Global, records: usize) -> Result<Order, AllocError>
         ensures placed { IfOk result (λ o. ArePlaced records o.numbers.items o.places.items) }
         ensures none { IfOk result (λ o. o.numbers.items ≡ []) }
     {
@@ -43,20 +44,20 @@ impl Order {
     }
 
     /// Whether a record has had its turn.
-    fn has(&self, number: u32) -> bool
+    pub(crate) fn has(&self, number: usize) -> bool
         requires { IsNumberOf (length self.now.places.items) number }
-        ensures { result ≡ not (slice_index self.now.places.items (number - 1) == 0) }
+        ensures { result ≡ has_place self.now.places.items number }
     {
-        self.places[number as usize - 1] != 0
+        self.places[number - 1] != 0
     }
 
     /// The number that a record gets: they are counted from the last record. It is 0 for a record that has had no turn.
-    pub(crate) fn new_number(&self, number: u32) -> usize
+    pub(crate) fn new_number(&self, number: usize) -> usize
         requires placed { ArePlaced (length self.now.places.items) self.now.numbers.items self.now.places.items }
         requires number { IsNumberOf (length self.now.places.items) number }
         ensures { result ≡ new_number self.now.numbers.items self.now.places.items number }
     {
-        match self.places[number as usize - 1] {
+        match self.places[number - 1] {
             0 => 0,
             place => self.numbers.len() - place + 1,
         }
@@ -86,10 +87,10 @@ impl Order {
         ensures completed { OnOk result (Completes file.now number self.old.numbers.items self.new.numbers.items) }
         ensures stay { OnOk result (FirstStay (number - 1) self.old.places.items self.new.places.items) }
     {
-        if self.has(number) {
+        if self.has(number as usize) {
             return Ok(());
         }
-        'uses: for used in record_at(file, number).uses.as_slice() {
+        'uses: for used in record_at(file, number as usize).uses.as_slice() {
             self.visit(file, used.number)?;
         }
         self.push(number)?;

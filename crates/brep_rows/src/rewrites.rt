@@ -1,0 +1,258 @@
+//! Rewrites by scripts that remove shapes: what is written, and what the history says.
+use crate::runs::{TWICE, desk_of_two, file_of, ran};
+use brep_desk::MemoryDesk;
+use brep_run::{LimitKind, Outcome, ScriptCode, ScriptFault};
+use std::alloc::Global;
+use std::test::Fail;
+
+const WORDS: [&str; 5] = ["rewrite", "in", "script", "out", "history"];
+
+/// A desk that holds a file and a script.
+fn desk_for(alloc: Global, text: &str, script: &str) -> Result<MemoryDesk, Fail> {
+    let bytes = text.as_bytes().to_vec(alloc)?;
+    let lines = script.as_bytes().to_vec(alloc)?;
+    Ok(desk_of_two(alloc, bytes, lines, &[], 4096)?)
+}
+
+/// What stands under a name, whole and ended.
+fn whole(alloc: Global, desk: &MemoryDesk, name: &str) -> Result<String, Fail> {
+    if !desk.ended(name) {
+        return Err(Fail::from("an output isn't ended"));
+    }
+    let out = desk.written(name).ok_or("nothing is written")?;
+    Ok(String::from_utf8(out.to_vec(alloc)?)?)
+}
+
+/// What a rewrite that is done writes: the file and the history.
+fn rewritten(alloc: Global, text: &str, script: &str) -> Result<(String, String), Fail> {
+    let mut desk = desk_for(alloc, text, script)?;
+    if ran(alloc, &WORDS, &mut desk)? != Outcome::Done {
+        return Err(Fail::from("the rewrite isn't done"));
+    }
+    let file = whole(alloc, &desk, "out")?;
+    let history = whole(alloc, &desk, "history")?;
+    Ok((file, history))
+}
+
+/// What a rewrite answers that writes nothing, and whether it wrote all the same.
+fn answer_of(alloc: Global, text: &str, script: &str) -> Result<(Outcome, bool), Fail> {
+    let mut desk = desk_for(alloc, text, script)?;
+    let outcome = ran(alloc, &WORDS, &mut desk)?;
+    let wrote = desk.written("out").is_some() || desk.written("history").is_some();
+    Ok((outcome, wrote))
+}
+
+const UNCHANGED: &str =
+    "BREP-HISTORY 1\nrecords 2\n1 1\n2 2\nmodified 0\ngenerated 0\nremoved 0\nend\n";
+
+// Each row: the script, the written records after the lines of the empty sections, and the history. The file is a compound that
+// uses a vertex twice.
+#[test]
+fn removes_shapes_with_their_history(rt: HostRuntime) -> Result<(), Fail> {
+    let alloc = rt.alloc();
+    let emptied = "TShapes 1\nCo\n\n0101000\n*\n+1 0\n";
+    let made = "TShapes 1\nCo\n\n1101000\n*\n+1 0\n";
+    let vertex_gone =
+        "BREP-HISTORY 1\nrecords 1\n1 1\nmodified 0\ngenerated 0\nremoved 1\n2\nend\n";
+    let root_gone = "BREP-HISTORY 1\nrecords 1\n1 0\nmodified 0\ngenerated 0\nremoved 1\n2\nend\n";
+    let rows = [
+        ("remove 2", emptied, vertex_gone),
+        ("remove 2\n", emptied, vertex_gone),
+        (
+            "# a comment\r\n\n \t\n\tremove  2 \r\n#\n",
+            emptied,
+            vertex_gone,
+        ),
+        ("remove 2\nremove 2\n", emptied, vertex_gone),
+        ("remove 1\n", made, root_gone),
+        ("remove 2\nremove 1\n", made, root_gone),
+    ];
+    for (script, records, history) in rows {
+        let written = file_of(alloc, records)?;
+        let (file, told) = rewritten(alloc, TWICE, script)?;
+        assert_eq!(rt; file.as_str(), written.as_str(), "{script}");
+        assert_eq!(rt; told.as_str(), history, "{script}");
+    }
+    for script in ["", "\n", "# nothing", "  \n"] {
+        let (file, told) = rewritten(alloc, TWICE, script)?;
+        assert_eq!(rt; file.as_str(), TWICE);
+        assert_eq!(rt; told.as_str(), UNCHANGED);
+    }
+    Ok(())
+}
+
+// Records 6 to 1: two vertices, a compound of each, one of both compounds, and one over that.
+#[test]
+fn rebuilds_what_stands_above(rt: HostRuntime) -> Result<(), Fail> {
+    let alloc = rt.alloc();
+    let read = file_of(
+        alloc,
+        "TShapes 6\nVe\n1\n0 0 0\n0 0\n\n0101101\n*\nVe\n1\n1 0 0\n0 0\n\n0101101\n*\nCo\n\n0011000\n+6 0 *\nCo\n\n0011000\n+5 0 *\nCo\n\n0011000\n-4 0 +3 0 *\nCo\n\n0011000\n+2 0 +3 0 *\n+1 0\n",
+    )?;
+    // Without vertex 5 the compounds 3, 2 and 1 are other trees, and compound 4 is as it was.
+    let written = file_of(
+        alloc,
+        "TShapes 5\nVe\n1\n0 0 0\n0 0\n\n0101101\n*\nCo\n\n0011000\n+5 0 *\nCo\n\n0101000\n*\nCo\n\n0101000\n-4 0 +3 0 *\nCo\n\n0101000\n+2 0 +3 0 *\n+1 0\n",
+    )?;
+    let (file, told) = rewritten(alloc, read.as_str(), "remove 5\n")?;
+    assert_eq!(rt; file.as_str(), written.as_str());
+    assert_eq!(rt;
+        told.as_str(),
+        "BREP-HISTORY 1\nrecords 5\n1 1\n2 2\n3 3\n4 4\n5 6\nmodified 0\ngenerated 0\nremoved 1\n5\nend\n"
+    );
+    // Without compound 3 its vertex goes too.
+    let (file, told) = rewritten(alloc, read.as_str(), "remove 3\n")?;
+    let written = file_of(
+        alloc,
+        "TShapes 4\nVe\n1\n0 0 0\n0 0\n\n0101101\n*\nCo\n\n0011000\n+4 0 *\nCo\n\n0101000\n-3 0 *\nCo\n\n0101000\n+2 0 *\n+1 0\n",
+    )?;
+    assert_eq!(rt; file.as_str(), written.as_str());
+    assert_eq!(rt;
+        told.as_str(),
+        "BREP-HISTORY 1\nrecords 4\n1 1\n2 2\n3 4\n4 6\nmodified 0\ngenerated 0\nremoved 1\n5\nend\n"
+    );
+    Ok(())
+}
+
+// Each row: a script, and its answer. Nothing is written.
+#[test]
+fn the_first_line_that_is_no_removal_decides(rt: HostRuntime) -> Result<(), Fail> {
+    let alloc = rt.alloc();
+    let missing = |line: u64, first: u64| {
+        Outcome::Script(ScriptFault {
+            line,
+            code: ScriptCode::NoSuchShape,
+            first,
+            second: 2,
+        })
+    };
+    let rows = [
+        ("remove 3", missing(1, 3)),
+        ("remove 0", missing(1, 0)),
+        (
+            "\n# two\nremove 2\nremove 999999999999999999\nremove -2\n",
+            missing(4, 999_999_999_999_999_999),
+        ),
+        ("remove 3\nundo\n", missing(1, 3)),
+        ("undo\nremove 3\n", Outcome::NotBuilt),
+        ("remove", Outcome::NotBuilt),
+        ("remove 2 2", Outcome::NotBuilt),
+        ("remove -2", Outcome::NotBuilt),
+        ("remove 02", Outcome::NotBuilt),
+        ("remove 1000000000000000000", Outcome::NotBuilt),
+        ("remove 2\r", Outcome::NotBuilt),
+        ("replace 2 by 1", Outcome::NotBuilt),
+        ("Remove 2", Outcome::NotBuilt),
+    ];
+    for (script, want) in rows {
+        assert_eq!(rt; answer_of(alloc, TWICE, script)?, (want, false), "{script}");
+    }
+    assert_eq!(rt; missing(1, 3).status(), 4);
+    assert_eq!(rt;
+        missing(1, 3).message(alloc)?.text(),
+        "script line 1 no-such-shape 3 2"
+    );
+    // The form of the file comes before the script.
+    assert_eq!(rt;
+        answer_of(alloc, "no file", "remove 3")?,
+        (Outcome::NotBuilt, false)
+    );
+    Ok(())
+}
+
+#[test]
+fn scripts_have_limits(rt: HostRuntime) -> Result<(), Fail> {
+    let alloc = rt.alloc();
+    let rows = [
+        (b'#', 4_194_304, Outcome::Done),
+        (
+            b'#',
+            4_194_305,
+            Outcome::Limit {
+                which: LimitKind::ScriptBytes,
+                count: 4_194_305,
+            },
+        ),
+        (b'\n', 65_536, Outcome::Done),
+        (
+            b'\n',
+            65_537,
+            Outcome::Limit {
+                which: LimitKind::ScriptLines,
+                count: 65_537,
+            },
+        ),
+    ];
+    for (byte, size, want) in rows {
+        let lines = vec![in alloc; byte; size]?;
+        let mut desk = desk_of_two(
+            alloc,
+            TWICE.as_bytes().to_vec(alloc)?,
+            lines,
+            &[],
+            1_048_576,
+        )?;
+        assert_eq!(rt; ran(alloc, &WORDS, &mut desk)?, want, "{size}");
+    }
+    let bytes = Outcome::Limit {
+        which: LimitKind::ScriptBytes,
+        count: 4_194_305,
+    };
+    assert_eq!(rt; bytes.message(alloc)?.text(), "limit script-bytes 4194305");
+    let lines = Outcome::Limit {
+        which: LimitKind::ScriptLines,
+        count: 65_537,
+    };
+    assert_eq!(rt; lines.message(alloc)?.text(), "limit script-lines 65537");
+    Ok(())
+}
+
+// Over a desk that moves one byte a call a rewrite of 209 bytes by an empty script makes these calls: 1 to 212 read the file,
+// 213 to 215 the script; 216 begins the file's writing, 217 to 425 write it, 426 ends it; 427 begins the history's, 428 to 497
+// write its 70 bytes, 498 ends it.
+#[test]
+fn a_fault_of_the_history_leaves_the_file_whole(rt: HostRuntime) -> Result<(), Fail> {
+    let alloc = rt.alloc();
+    let text = TWICE.as_bytes();
+    let rows = [
+        (216, 1, 0),
+        (219, 1, 2),
+        (426, 1, 209),
+        (427, 2, 0),
+        (428, 2, 0),
+        (430, 2, 2),
+        (498, 2, 70),
+    ];
+    for (call, file, taken) in rows {
+        let mut desk = desk_of_two(alloc, text.to_vec(alloc)?, Vec::new(alloc), &[call], 1)?;
+        let stopped = Outcome::WriteDesk {
+            before: 0,
+            after: 1,
+            file,
+            taken,
+        };
+        assert_eq!(rt; ran(alloc, &WORDS, &mut desk)?, stopped, "call {call}");
+        if file == 1 {
+            assert_eq!(rt; desk.written("history"), None, "call {call}");
+            assert!(rt; !desk.ended("out"), "call {call}");
+        } else {
+            assert_eq!(rt; desk.written("out"), Some(text), "call {call}");
+            assert!(rt; desk.ended("out"), "call {call}");
+            assert!(rt; !desk.ended("history"), "call {call}");
+        }
+    }
+    for call in [1, 212, 213, 214, 215] {
+        let mut desk = desk_of_two(alloc, text.to_vec(alloc)?, Vec::new(alloc), &[call], 1)?;
+        let outcome = ran(alloc, &WORDS, &mut desk)?;
+        assert_eq!(rt;
+            outcome,
+            Outcome::ReadDesk {
+                before: 0,
+                after: 1
+            },
+            "call {call}"
+        );
+        assert_eq!(rt; desk.written("out"), None);
+    }
+    Ok(())
+}

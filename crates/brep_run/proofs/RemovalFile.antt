@@ -1,0 +1,205 @@
+-- The file that remains after a removal: it is sound, and it is written as its root over the first file.
+use Rattle.std.proofs.Common.{◌≡◌, ◌<◌, ◌≤◌, ◌+◌, ◌-◌, refl, sym, ◌∙◌, ap, subst, arith, inl, inr}
+use Rattle.std.specs.Prelude.{ℕ, zero, suc, max, ◌^◌, Bool, true, false, not, ◌&&◌, if◌then◌else◌, Option, Some, List, [], ◌∷◌, All, map, filter, length, Contains, slice_get}
+use Rattle.std.specs.Option.{option_map, option_map_or}
+use Rattle.std.proofs.lemmas.List.{length-map}
+use Rattle.std.proofs.lemmas.List.Elements.{All-filter, All-weaker}
+use Rattle.std.proofs.lemmas.Option.{same_Some, slice_get-map, slice_get_within}
+use Rattle.orientation.specs.declared.kind.Kind.{Kind}
+use Rattle.orientation.specs.Kinds.{IsBelow}
+use Rattle.expansion_laws.specs.Trees.{Tree, Use, uses, uses_of, origin, tree_of}
+use Rattle.expansion_laws.specs.Equality.{tree_eq}
+use Rattle.expansion_laws.specs.Measures.{depth, uses_depth, subtrees}
+use Rattle.expansion_laws.specs.Expansion.{NumberedUse, IsNumberOf, expansion, tree_of_number}
+use Rattle.expansion_laws.specs.Walk.{RecordsAreTrees}
+use Rattle.expansion_laws.specs.Written.{flat, IsWritten}
+use Rattle.expansion_laws.proofs.Members.{by_test, Contains-here, Contains-there, at_place}
+use Rattle.expansion_laws.proofs.Subtrees.{subtrees-itself, subtrees-use, subtrees-onward}
+use Rattle.brep_run.specs.declared.file.FileUse.{FileUse}
+use Rattle.brep_run.specs.declared.file.Head.{Head}
+use Rattle.brep_run.specs.declared.file.Record.{Record}
+use Rattle.brep_run.specs.declared.file.File.{File}
+use Rattle.brep_run.specs.PlainRecords.{record_of, plain_use, plain_records, tree_of_record, expansion_of}
+use Rattle.brep_run.specs.Sound.{IsShaped, IsUse, IsRecord, IsSound}
+use Rattle.brep_run.specs.Dress.{head_for, head_of, made_head, rebuilt}
+use Rattle.brep_run.specs.Completion.{NumbersTell, use_of_tree}
+use Rattle.brep_run.specs.Copies.{CanBeWritten}
+use Rattle.brep_run.specs.Layout.{layout}
+use Rattle.brep_run.specs.WrittenFile.{written_use, written_record, text_of}
+use Rattle.brep_run.specs.Remaining.{kept_uses, kept_records, tree_after, record_after, IsFileAfter, is_told, is_gone, is_modified, has_place, mark_of, passing}
+use Rattle.brep_run.proofs.CopyLemmas.{record-at, kind-for, file-sound, stands-below}
+use Rattle.brep_run.proofs.KeptLists.{by_places, filter-yes, filter-no, map-same}
+use Rattle.brep_run.proofs.Passing.{passing-same}
+use Rattle.brep_run.proofs.WrittenSound.{perhaps, shaped-perhaps}
+use Rattle.brep_run.proofs.WrittenTexts.{head_is}
+use Rattle.brep_run.proofs.RemovalTrees.{use_after, count-kept, origin-after, after-is, before-is, names-above}
+
+-- uses of which some are left out and the others are no deeper
+below-kept : (p : FileUse → Bool) (a b : FileUse → Use) (us : List FileUse) → ((u : FileUse) → Contains us u → depth (a u).tree ≤ depth (b u).tree) →
+    uses_depth (uses_of (map a (filter p us))) ≤ uses_depth (uses_of (map b us))
+below-kept p a b [] h = omega arith
+below-kept p a b (u ∷ us) h =
+    let rest = below-kept p a b us (λ v m. h v (Contains-there u v us m)) in
+    let first = h u (Contains-here u us) in
+    by_test (p u)
+    (λ e. let l = ap (λ vs. uses_depth (uses_of (map a vs))) (filter-yes p u us e) in omega (arith, rest, first, l))
+    (λ e. let l = ap (λ vs. uses_depth (uses_of (map a vs))) (filter-no p u us e) in omega (arith, rest, l))
+
+module _ (f : File) (removed : ℕ → Bool) (tell : NumbersTell f) (walk : RecordsAreTrees (kept_records f removed)) where
+  -- trees only lose what is below them
+  depth-within : (m k : ℕ) → length f.records < k + m → IsNumberOf (length f.records) k → depth (tree_after f removed k) ≤ depth (tree_of_record f k)
+  depth-within zero k deep n = (let high = n.1 in absurd (omega (arith, high, deep)))
+  depth-within (suc m) k deep n =
+      let at = record-at f k n in
+      let below = below-kept (λ u. not (removed u.number)) (use_after f removed) (use_of_tree f) at.0.uses (λ u o.
+      let names = names-above f removed tell walk k at.0 u n at.1 o in let above = names.0 in
+      depth-within m u.number (omega (arith, deep, above)) names.1) in
+      let a = ap depth (after-is f removed tell walk k at.0 n at.1) in
+      let b = ap depth (before-is f removed tell walk k at.0 n at.1) in
+      omega (arith, below, a, b)
+
+  pub kind-after : (k : ℕ) (r : Record) → IsNumberOf (length f.records) k → record_of f k ≡ Some r → (head_for f (tree_after f removed k)).kind ≡ r.head.kind
+  kind-after k r n e = kind-for f (tree_after f removed k) r (ap (record_of f) (origin-after f removed tell walk k n) ∙ e)
+
+  shaped-after : (k : ℕ) (r : Record) → IsNumberOf (length f.records) k → record_of f k ≡ Some r → IsShaped r.head.kind r.head.payload →
+      IsShaped (head_for f (tree_after f removed k)).kind (head_for f (tree_after f removed k)).payload
+  shaped-after k r n e s =
+      let same : Bool = tree_eq (tree_after f removed k) (tree_of_record f (origin (tree_after f removed k))) in
+      let is : head_for f (tree_after f removed k) ≡ perhaps same r.head =
+      ap (λ (o : Option Record). option_map_or (λ (q : Record). if same then q.head else rebuilt q.head) o made_head) (ap (record_of f) (origin-after f removed tell walk k n) ∙ e) in
+      subst (λ h. IsShaped h.kind h.payload) (sym is) (shaped-perhaps same r.head s)
+
+  abbrev uses_in_file : Record → List NumberedUse
+  uses_in_file r = map plain_use r.uses
+
+  abbrev uses_kept : Record → List NumberedUse
+  uses_kept r = map plain_use (kept_uses removed r.uses)
+
+  module _ (g : File) (after : IsFileAfter f removed g) where
+    -- without their data the records are those with the uses that are kept
+    pub plain-after : plain_records g ≡ kept_records f removed
+    plain-after = by_places (plain_records g) (kept_records f removed)
+        (length-map g.records uses_in_file ∙ after.size ∙ sym (length-map f.records uses_kept))
+        (λ i x e.
+        let within = slice_get_within (plain_records g) i x e in let long = length-map g.records uses_in_file in let same = after.size in
+        let r = at_place f.records i (omega (arith, within, long, same)) in
+        let k : ℕ = length f.records - i in
+        let back : length f.records - k ≡ i = omega (arith, within, long, same) in
+        let back_in : length g.records - k ≡ i = omega (arith, within, long, same) in
+        let number : IsNumberOf (length f.records) k = (omega (arith, within, long, same), omega arith) in
+        let made = after.records k r.0 number (ap (slice_get f.records) back ∙ r.1) in
+        let there : slice_get g.records i ≡ Some (record_after f removed k r.0) = ap (slice_get g.records) (sym back_in) ∙ made in
+        let listed : slice_get (plain_records g) i ≡ Some (uses_kept r.0) = slice_get-map uses_in_file g.records i ∙ ap (option_map uses_in_file) there in
+        slice_get-map uses_kept f.records i ∙ ap (option_map uses_kept) r.1 ∙ sym listed ∙ e)
+
+    pub tree-after : (k : ℕ) → tree_of_record g k ≡ tree_after f removed k
+    tree-after k = ap (λ records. tree_of_number records k) plain-after
+
+    pub root-after : expansion_of g ≡ use_after f removed f.root
+    root-after = (let plain = plain-after in let same = after.root in λ i. expansion (plain i) (plain_use (same i)))
+
+    number-in : (k : ℕ) → IsNumberOf (length g.records) k → IsNumberOf (length f.records) k
+    number-in k n = subst (λ m. IsNumberOf m k) after.size n
+
+    use-sound : (k : ℕ) (r : Record) (u : FileUse) → IsNumberOf (length f.records) k → record_of f k ≡ Some r → IsUse f k r.head.kind u →
+        IsUse g k (head_for f (tree_after f removed k)).kind u
+    use-sound k r u n e is =
+        let above = is.above in
+        let number : IsNumberOf (length f.records) u.number = (omega (arith, above), is.named) in
+        let child = record-at f u.number number in
+        record {
+          above = is.above;
+          named = subst (λ m. u.number ≤ m) (sym after.size) is.named;
+          in_order = λ q o.
+              (let same : record_after f removed u.number child.0 ≡ q = same_Some (record_after f removed u.number child.0) q (sym (after.records u.number child.0 number child.1) ∙ o) in
+              let kind : q.head.kind ≡ child.0.head.kind = ap (λ (z : Record). z.head.kind) (sym same) ∙ kind-after u.number child.0 number child.1 in
+              subst (λ a. IsBelow a (head_for f (tree_after f removed k)).kind) (sym kind)
+              (subst (IsBelow child.0.head.kind) (sym (kind-after k r n e)) (is.in_order child.0 child.1)));
+          location = is.location;
+        }
+
+    record-sound : (k : ℕ) (r : Record) → IsNumberOf (length f.records) k → record_of f k ≡ Some r → IsRecord f k r → IsRecord g k (record_after f removed k r)
+    record-sound k r n e is = record {
+      shaped = shaped-after k r n e is.shaped;
+      uses = All-weaker (IsUse f k r.head.kind) (IsUse g k (head_for f (tree_after f removed k)).kind) (λ u o. use-sound k r u n e o) (kept_uses removed r.uses)
+          (All-filter (λ u. not (removed u.number)) (IsUse f k r.head.kind) r.uses is.uses);
+    }
+
+    pub after-sound : IsSound g
+    after-sound = record {
+      version = after.version ∙ tell.sound.version;
+      countable = subst (λ m. m < 10 ^ 18) (sym after.size) tell.sound.countable;
+      records = λ k q n o.
+          (let number = number-in k n in
+          let at = record-at f k number in
+          subst (IsRecord g k) (same_Some (record_after f removed k at.0) q (sym (after.records k at.0 number at.1) ∙ o))
+          (record-sound k at.0 number at.1 (tell.sound.records k at.0 number at.1)));
+      depths = λ k n.
+          (let number = number-in k n in let low = number.0 in
+          let within = depth-within (suc (length f.records)) k (omega (arith, low)) number in
+          let same = ap depth (tree-after k) in
+          let shallow = tell.sound.depths k number in
+          omega (arith, within, same, shallow));
+      root = subst (λ (u : FileUse). IsNumberOf (length g.records) u.number) (sym after.root) (subst (λ m. IsNumberOf m f.root.number) (sym after.size) tell.sound.root);
+      root_location = ap (λ (u : FileUse). u.location) after.root ∙ tell.sound.root_location;
+    }
+
+    pub after-tells : ((h : File) → IsSound h → RecordsAreTrees (plain_records h)) → NumbersTell g
+    after-tells are = record { sound = after-sound; trees = are g after-sound; test = tell.test }
+
+    -- each record keeps its kind
+    pub kind-same : (k : ℕ) → IsNumberOf (length f.records) k → (head_of g k).kind ≡ (head_of f k).kind
+    kind-same k n =
+        let at = record-at f k n in
+        ap (λ (o : Option Record). (option_map_or (λ (r : Record). r.head) o made_head).kind) (after.records k at.0 n at.1)
+        ∙ kind-after k at.0 n at.1
+        ∙ sym (ap (λ (o : Option Record). (option_map_or (λ (r : Record). r.head) o made_head).kind) at.1)
+
+    pub gone-same : (before places : List ℕ) → passing (is_gone g before places) (length g.records) ≡ passing (is_gone f before places) (length f.records)
+    gone-same before places =
+        ap (passing (is_gone g before places)) after.size
+        ∙ passing-same (is_gone g before places) (is_gone f before places) (length f.records)
+        (λ k n. ap (λ (kind : Kind). is_told kind && (has_place before k && not (has_place places k))) (kind-same k n))
+
+    pub modified-same : (changed : List Bool) (places : List ℕ) → passing (is_modified g changed places) (length g.records) ≡ passing (is_modified f changed places) (length f.records)
+    modified-same changed places =
+        ap (passing (is_modified g changed places)) after.size
+        ∙ passing-same (is_modified g changed places) (is_modified f changed places) (length f.records)
+        (λ k n. ap (λ (kind : Kind). is_told kind && (mark_of changed k && has_place places k)) (kind-same k n))
+
+    module _ (again : NumbersTell g) where
+      -- what stands in the root has the same head over both files
+      head-same : (x : Tree) → Contains (subtrees (expansion_of g).tree) x → head_for g x ≡ head_for f x
+      head-same x m =
+          let stands = stands-below g after-sound again.trees x m in
+          let k : ℕ = origin x in
+          let number = number-in k stands.number in
+          let at = record-at f k number in
+          ap (head_for g) stands.tree
+          ∙ head_is g again k (record_after f removed k at.0) stands.number (after.records k at.0 number at.1)
+          ∙ ap (head_for f) (sym (tree-after k))
+          ∙ ap (head_for f) (sym stands.tree)
+
+      module _ (written : IsWritten (expansion_of g) (flat (expansion_of g).tree)) where
+        -- so it is written alike
+        pub text-same : text_of g (expansion_of g) ≡ text_of f (expansion_of g)
+        text-same =
+            let trees : List Tree = flat (expansion_of g).tree in
+            let heads : map (written_record g trees) trees ≡ map (written_record f trees) trees =
+            map-same (written_record g trees) (written_record f trees) trees (λ x m.
+            let same = head-same x (written.lists.stand x m) in λ i. record { head = same i; uses = map (written_use trees) (uses x) }) in
+            let version = after.version in
+            λ i. layout (record { version = version i; records = heads i; root = written_use trees (expansion_of g) })
+
+      pub writable-over : CanBeWritten g (expansion_of g) → CanBeWritten f (expansion_of g)
+      writable-over can = record {
+        origins = λ x m. elim (can.origins x m) [ inl e ↦ inl e | inr n ↦ inr (number-in (origin x) n) ];
+        in_order = λ x u m o.
+            (let child : Contains (subtrees (expansion_of g).tree) u.tree = subtrees-onward (expansion_of g).tree x u.tree m (subtrees-use x u u.tree o (subtrees-itself u.tree)) in
+            subst (λ a. IsBelow a (head_for f x).kind) (ap (λ (h : Head). h.kind) (head-same u.tree child))
+            (subst (IsBelow (head_for g u.tree).kind) (ap (λ (h : Head). h.kind) (head-same x m)) (can.in_order x u m o)));
+        words = can.words;
+        root_word = can.root_word;
+        shallow = can.shallow;
+        countable = can.countable;
+      }

@@ -1,0 +1,142 @@
+-- What a rewriting writes, what stands after it, whole or stopped, and why it is refused.
+use Rattle.std.specs.Prelude.{◌≡◌, ◌⊎◌, ℕ, ◌+◌, ◌<◌, ◌≤◌, IsTrue, List, length, Some}
+use Rattle.brep_desk.specs.Shown.{Shown, Tells}
+use Rattle.brep_desk.specs.Whole.{IsLonger}
+use Rattle.history_text.specs.declared.file.HistoryFile.{HistoryFile}
+use Rattle.history_text.specs.HistoryText as history_text
+use Rattle.history_text.specs.Sending.{counted}
+use Rattle.script_text.specs.Lines.{script_line_count}
+use Rattle.expansion_laws.specs.Trees.{Use}
+use Rattle.step_history.specs.History.{modified}
+use Rattle.brep_run.specs.declared.file.File.{File}
+use Rattle.brep_run.specs.declared.outcome.LimitKind.{LimitKind}
+use Rattle.brep_run.specs.declared.outcome.LimitKind.TheVariants.{FileBytes, ScriptBytes, ScriptLines}
+use Rattle.brep_run.specs.declared.outcome.ScriptFault.{ScriptFault}
+use Rattle.brep_run.specs.Reads.{Reads, Spells}
+use Rattle.brep_run.specs.WrittenFile.{text_of}
+use Rattle.brep_run.specs.Copies.{IsTextFor, SharesEqualTrees}
+use Rattle.brep_run.specs.Copy.{Holds, OutWritten, PrefixWritten, most_bytes}
+use Rattle.brep_run.specs.Removal.{IsRootAfter, history_after, origins_written, ArePairsOf, AreNumbersOf}
+use Rattle.brep_run.specs.Script.{script_given, removals, missing, unbuilt}
+
+-- the greatest numbers of bytes and of lines of a script
+abbrev pub most_script_bytes : ℕ
+most_script_bytes = 4194304
+
+abbrev pub most_script_lines : ℕ
+most_script_lines = 65536
+
+-- ---- what is read
+
+-- the source holds a file that is read
+pub record HoldsFile (old : Shown) (source : List ℕ) (f : File) : Type 0 where
+  pub bytes : List ℕ
+  pub holds : Holds old source bytes
+  pub reads : Reads bytes f
+
+-- the name holds a script within the limits
+pub record HoldsScript (old : Shown) (script lines : List ℕ) : Type 0 where
+  pub held : old.held script ≡ Some lines
+  pub few_bytes : length lines ≤ most_script_bytes
+  pub few_lines : script_line_count lines ≤ most_script_lines
+
+-- the file is read, and the script removes shapes of it, with these numbers
+pub record IsAccepted (old : Shown) (source script : List ℕ) (f : File) (numbers : List ℕ) : Type 0 where
+  pub file : HoldsFile old source f
+  pub lines : List ℕ
+  pub held : HoldsScript old script lines
+  pub given : script_given (length f.records) lines ≡ removals numbers
+
+-- ---- what is written
+
+-- the text is that of a history, whose pairs and numbers are those of the step's history, each list in ascending order
+pub record IsHistoryOf (f : File) (numbers : List ℕ) (root : Use) (h : HistoryFile) : Type 0 where
+  pub origins : h.origins ≡ origins_written root
+  pub modified_are : ArePairsOf f root (modified (history_after f numbers root)) h.modified
+  pub generated_are : ArePairsOf f root (history_after f numbers root).generated h.generated
+  pub removed_are : AreNumbersOf f (history_after f numbers root).removed h.removed
+  pub ascends : history_text.IsHistory h
+
+-- The texts of a file from which the shapes with these numbers are removed, and of the history of that step: the first is
+-- that of the root after the removals.
+pub record AreTextsOf (f : File) (numbers : List ℕ) (root : Use) (text told : List ℕ) : Type 0 where
+  pub root_after : IsRootAfter f numbers root
+  pub written : text ≡ text_of f root
+  pub stands : IsTextFor f root text
+  pub history : (h : HistoryFile) × (told ≡ history_text.text_of h) × IsHistoryOf f numbers root h
+
+-- the texts that are due for what the names hold
+abbrev pub AreDue : Tells → Shown → List ℕ → List ℕ → List ℕ → List ℕ → Type 0
+AreDue t old source script text told =
+    IsTrue t.held → (f : File) × (numbers : List ℕ) × (root : Use) × IsAccepted old source script f numbers × AreTextsOf f numbers root text told
+
+-- the one text and then the other stand whole under their names
+abbrev pub BothWritten : Tells → Shown → Shown → List ℕ → List ℕ → List ℕ → List ℕ → Type 0
+BothWritten t old new target text history told = (between : Shown) × OutWritten t old between target text × OutWritten t between new history told
+
+abbrev pub IsRewritten : Tells → Shown → Shown → List ℕ → List ℕ → List ℕ → List ℕ → Type 0
+IsRewritten t old new source script target history =
+    (text : List ℕ) × (told : List ℕ) × AreDue t old source script text told × BothWritten t old new target text history told
+
+-- a root that the removals of an accepted script make, and its text
+pub record IsRootMade (old : Shown) (source script text : List ℕ) (f : File) (root : Use) : Type 0 where
+  pub numbers : List ℕ
+  pub accepted : IsAccepted old source script f numbers
+  pub root_after : IsRootAfter f numbers root
+  pub stands : IsTextFor f root text
+
+-- The written text spells one file, which stands for the root after the removals.
+abbrev pub RewriteExpands : Tells → Shown → Shown → List ℕ → List ℕ → List ℕ → Type 0
+RewriteExpands t old new source script target =
+    (text : List ℕ) → IsTrue t.held → IsTrue t.written → new.written target ≡ Some text → (f : File) × (root : Use) × IsRootMade old source script text f root
+
+-- In that file two occurrences go through one record exactly where their rewritten trees are equal.
+abbrev pub RewriteShares : Tells → Shown → Shown → List ℕ → List ℕ → List ℕ → Type 0
+RewriteShares t old new source script target =
+    (text : List ℕ) (g : File) → IsTrue t.held → IsTrue t.written → new.written target ≡ Some text → Spells text g →
+    (f : File) × (root : Use) × IsRootMade old source script text f root × SharesEqualTrees root g
+
+-- ---- a fault of writing
+
+-- the first bytes of a text stand under the name, or what stood there before; their count is told up to the last u64
+abbrev pub IsCountedPrefix : Tells → Shown → Shown → List ℕ → List ℕ → ℕ → Type 0
+IsCountedPrefix t old new name text taken = (count : ℕ) × (taken ≡ counted count) × PrefixWritten t old new name text count
+
+-- at the first output, or at the second: then the first is whole
+abbrev pub IsOneStopped : Tells → Shown → Shown → List ℕ → List ℕ → List ℕ → List ℕ → ℕ → ℕ → Type 0
+IsOneStopped t old new target text history told file taken =
+    ((file ≡ 1) × PrefixWritten t old new target text taken)
+    ⊎ ((file ≡ 2) × ((between : Shown) × OutWritten t old between target text × IsCountedPrefix t between new history told taken))
+
+abbrev pub IsRewriteStopped : Tells → Shown → Shown → List ℕ → List ℕ → List ℕ → List ℕ → ℕ → ℕ → Type 0
+IsRewriteStopped t old new source script target history file taken =
+    (text : List ℕ) × (told : List ℕ) × AreDue t old source script text told × IsOneStopped t old new target text history told file taken
+
+-- ---- refusals, where it is told what the names hold
+
+-- the source holds no file that is read, or a line of the script that decides has another form
+abbrev pub IsRewriteUnbuilt : Tells → Shown → List ℕ → List ℕ → Type 0
+IsRewriteUnbuilt t old source script = IsTrue t.held →
+    ((bytes : List ℕ) × Holds old source bytes × ((f : File) → Reads bytes f → ⊥))
+    ⊎ ((f : File) × (lines : List ℕ) × HoldsFile old source f × HoldsScript old script lines × (script_given (length f.records) lines ≡ unbuilt))
+
+-- a line of the script names a shape that isn't there
+abbrev pub IsRefusedLine : Tells → Shown → List ℕ → List ℕ → ScriptFault → Type 0
+IsRefusedLine t old source script fault = IsTrue t.held →
+    (f : File) × (lines : List ℕ) × HoldsFile old source f × HoldsScript old script lines
+    × (script_given (length f.records) lines ≡ missing fault.line fault.first) × (fault.second ≡ length f.records)
+
+-- the script has more lines than the limit
+pub record HasMoreLines (old : Shown) (script : List ℕ) : Type 0 where
+  pub lines : List ℕ
+  pub held : old.held script ≡ Some lines
+  pub few_bytes : length lines ≤ most_script_bytes
+  pub more : most_script_lines < script_line_count lines
+
+-- the file or the script is too long; where it is the script, the source holds a file
+abbrev pub IsRewriteLimit : Tells → Shown → List ℕ → List ℕ → LimitKind → ℕ → Type 0
+IsRewriteLimit t old source script FileBytes count = (count ≡ most_bytes + 1) × IsLonger t old source most_bytes
+IsRewriteLimit t old source script ScriptBytes count =
+    (count ≡ most_script_bytes + 1) × IsLonger t old script most_script_bytes × (IsTrue t.held → (f : File) × HoldsFile old source f)
+IsRewriteLimit t old source script ScriptLines count =
+    (count ≡ most_script_lines + 1) × (IsTrue t.held → (f : File) × HoldsFile old source f × HasMoreLines old script)

@@ -1,0 +1,214 @@
+//! `rewrite`: reads a file and a script, and writes the file after the script's removals and their history.
+ghost use Rattle.std.specs.Prelude.{◌≡◌, ◌≤◌, ◌<◌, ◌^◌, ◌+◌, ℕ, List, All, IfOk, IsTrue, length};
+ghost use Rattle.brep_desk.specs.Strays.{KeepsStrays, IsHeldIfTold};
+ghost use Rattle.brep_desk.specs.Whole.{NothingWritten};
+ghost use Rattle.expansion_laws.specs.Expansion.{IsNumberOf};
+ghost use Rattle.expansion_laws.specs.Trees.{Use};
+ghost use Rattle.history_text.specs.HistoryText.{text_of};
+ghost use Rattle.brep_run.specs.Copy.{Counts, OutWritten};
+ghost use Rattle.brep_run.specs.Outcomes.{OnDone, OnUsage, OnNotBuilt, IfLimit, IfReadDesk, IfScript, IfWriteDesk, UnlessWriting};
+ghost use Rattle.brep_run.specs.Rewrite.{AreTextsOf, BothWritten, IsCountedPrefix, IsOneStopped, IsRefusedLine, IsRewriteLimit, IsRewriteStopped, IsRewriteUnbuilt, IsRewritten};
+ghost use Rattle.brep_run.specs.Sound.{IsSound};
+
+use crate::copy::{FILE_BYTES, write_out};
+use crate::file::File;
+use crate::laws::{reading_is_exact, texts_stand_for_roots};
+use crate::outcome::{LimitKind, Outcome, ScriptCode, ScriptFault};
+use crate::reader::read_file;
+use crate::removal::without;
+use crate::script::{ScriptStop, removed_numbers};
+use crate::stop::Stop;
+use brep_desk::{Desk, ReadAll, read_all};
+use expansion_laws::laws::roots_are_written;
+use history_text::{HistoryFile, NumberPairs, emit};
+use script_text::line_count;
+use std::alloc::{AllocError, Global};
+
+/// The greatest number of bytes of a script.
+const SCRIPT_BYTES: u64 = 4_194_304;
+
+/// The greatest number of lines of a script.
+const SCRIPT_LINES: u64 = 65_536;
+
+/// What is written: the text of the file, and its history.
+#[derive(Drop)]
+struct Rewriting {
+    text: Vec<u8>,
+    history: HistoryFile,
+}
+
+/// The file without the records with these numbers, and the history of their removal. `room` is how many bytes of text are
+/// expected.
+fn rewriting_of(
+    alloc: Global,
+    file: File,
+    numbers: &[u32],
+    room: usize,
+) -> Result<Rewriting, AllocError>
+    requires sound { IsSound file }
+    requires numbers { All (IsNumberOf (length file.records)) numbers.now }
+    ensures { IfOk result (λ r. (root : Use) × AreTextsOf file numbers.now root r.text.items (text_of r.history)) }
+{
+    texts_stand_for_roots();
+    roots_are_written();
+    let removal = without(alloc, file, numbers, room)?;
+    Ok(Rewriting {
+        text: removal.text,
+        history: HistoryFile {
+            origins: removal.origins,
+            modified: removal.modified,
+            generated: NumberPairs::new(alloc),
+            removed: removal.removed,
+        },
+    })
+}
+
+/// Writes the history under the name, whole and ended, as the second output.
+fn write_history<D: Desk>(desk: &mut D, name: &str, history: &HistoryFile) -> Outcome
+    ensures done { OnDone result (OutWritten D.tells (D.shows desk.old) (D.shows desk.new) name.now (text_of history.now)) }
+    ensures stopped { IfWriteDesk result (λ b a file taken. (file ≡ 2) × IsCountedPrefix D.tells (D.shows desk.old) (D.shows desk.new) name.now (text_of history.now) taken) }
+    ensures counts { IfWriteDesk result (λ b a file taken. Counts (D.faults desk.old) (D.faults desk.new) b a) }
+    ensures either { UnlessWriting result ⊥ }
+    ensures strays { KeepsStrays D.tells (D.shows desk.old) (D.shows desk.new) }
+{
+    let before = desk.faults();
+    let c = match desk.begin_write(name) {
+        Ok(c) => c,
+        Err(_) => {
+            return Outcome::WriteDesk {
+                before,
+                after: desk.faults(),
+                file: 2,
+                taken: 0,
+            };
+        }
+    };
+    let taken = match emit(history, desk, c) {
+        Ok(taken) => taken,
+        Err(stop) => {
+            return Outcome::WriteDesk {
+                before,
+                after: desk.faults(),
+                file: 2,
+                taken: stop.taken,
+            };
+        }
+    };
+    match desk.end(c) {
+        Ok(()) => Outcome::Done,
+        Err(_) => Outcome::WriteDesk {
+            before,
+            after: desk.faults(),
+            file: 2,
+            taken,
+        },
+    }
+}
+
+/// Writes the text and then the history, each whole and ended.
+fn write_both<D: Desk>(
+    desk: &mut D,
+    target: &str,
+    text: &[u8],
+    name: &str,
+    history: &HistoryFile,
+) -> Outcome
+    ensures done { OnDone result (BothWritten D.tells (D.shows desk.old) (D.shows desk.new) target.now text.now name.now (text_of history.now)) }
+    ensures stopped { IfWriteDesk result (λ b a file taken. IsOneStopped D.tells (D.shows desk.old) (D.shows desk.new) target.now text.now name.now (text_of history.now) file taken) }
+    ensures counts { IfWriteDesk result (λ b a file taken. Counts (D.faults desk.old) (D.faults desk.new) b a) }
+    ensures either { UnlessWriting result ⊥ }
+    ensures strays { KeepsStrays D.tells (D.shows desk.old) (D.shows desk.new) }
+{
+    match write_out(desk, target, text) {
+        Outcome::Done => write_history(desk, name, history),
+        stopped => stopped,
+    }
+}
+
+/// Reads the file and its script, and writes what remains under the one name and the history under the other. Both texts
+/// are made whole before the writing begins.
+pub(crate) fn rewrite<D: Desk>(
+    alloc: Global,
+    desk: &mut D,
+    source: &str,
+    script: &str,
+    target: &str,
+    history: &str,
+) -> Outcome
+    ensures done { OnDone result (IsRewritten D.tells (D.shows desk.old) (D.shows desk.new) source.now script.now target.now history.now) }
+    ensures stopped { IfWriteDesk result (λ b a file taken. IsRewriteStopped D.tells (D.shows desk.old) (D.shows desk.new) source.now script.now target.now history.now file taken) }
+    ensures write_counts { IfWriteDesk result (λ b a file taken. Counts (D.faults desk.old) (D.faults desk.new) b a) }
+    ensures read_counts { IfReadDesk result (λ b a. Counts (D.faults desk.old) (D.faults desk.new) b a) }
+    ensures limit { IfLimit result (λ which count. IsRewriteLimit D.tells (D.shows desk.old) source.now script.now which count) }
+    ensures not_built { OnNotBuilt result (IsRewriteUnbuilt D.tells (D.shows desk.old) source.now script.now) }
+    ensures script { IfScript result (λ fault. IsRefusedLine D.tells (D.shows desk.old) source.now script.now fault) }
+    ensures usage { OnUsage result ⊥ }
+    ensures quiet { UnlessWriting result (NothingWritten D.tells (D.shows desk.old) (D.shows desk.new)) }
+    ensures strays { IsHeldIfTold D.tells (D.shows desk.old) source.now → IsHeldIfTold D.tells (D.shows desk.old) script.now → KeepsStrays D.tells (D.shows desk.old) (D.shows desk.new) }
+{
+    reading_is_exact();
+    let before = desk.faults();
+    let bytes = match read_all(alloc, desk, source, FILE_BYTES) {
+        Ok(bytes) => bytes,
+        Err(ReadAll::Failed) => {
+            return Outcome::ReadDesk {
+                before,
+                after: desk.faults(),
+            };
+        }
+        Err(ReadAll::TooLong) => {
+            return Outcome::Limit {
+                which: LimitKind::FileBytes,
+                count: FILE_BYTES as u128 + 1,
+            };
+        }
+        Err(ReadAll::NoMemory) => return Outcome::NoMemory,
+    };
+    let room = bytes.len();
+    let file = match read_file(alloc, bytes) {
+        Ok(file) => file,
+        Err(Stop::NotBuilt) => return Outcome::NotBuilt,
+        Err(Stop::NoMemory) => return Outcome::NoMemory,
+    };
+    let before = desk.faults();
+    let lines = match read_all(alloc, desk, script, SCRIPT_BYTES) {
+        Ok(lines) => lines,
+        Err(ReadAll::Failed) => {
+            return Outcome::ReadDesk {
+                before,
+                after: desk.faults(),
+            };
+        }
+        Err(ReadAll::TooLong) => {
+            return Outcome::Limit {
+                which: LimitKind::ScriptBytes,
+                count: SCRIPT_BYTES as u128 + 1,
+            };
+        }
+        Err(ReadAll::NoMemory) => return Outcome::NoMemory,
+    };
+    if line_count(&lines) > SCRIPT_LINES {
+        return Outcome::Limit {
+            which: LimitKind::ScriptLines,
+            count: SCRIPT_LINES as u128 + 1,
+        };
+    }
+    let shapes = file.records.len();
+    let numbers = match removed_numbers(alloc, &lines, shapes as u32) {
+        Ok(numbers) => numbers,
+        Err(ScriptStop::NotBuilt) => return Outcome::NotBuilt,
+        Err(ScriptStop::Missing { line, number }) => {
+            return Outcome::Script(ScriptFault {
+                line,
+                code: ScriptCode::NoSuchShape,
+                first: number,
+                second: shapes as u64,
+            });
+        }
+        Err(ScriptStop::NoMemory) => return Outcome::NoMemory,
+    };
+    match rewriting_of(alloc, file, &numbers, room) {
+        Ok(made) => write_both(desk, target, &made.text, history, &made.history),
+        Err(_) => Outcome::NoMemory,
+    }
+}

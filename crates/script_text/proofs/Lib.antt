@@ -1,0 +1,6 @@
+pub mod WordLemmas
+pub mod LineLemmas
+pub mod Distinct
+pub mod ReadingParts
+pub mod ReadingWhole
+pub mod AnswerLaws

@@ -1,0 +1,20 @@
+//! The lines of a script, the words of a line, and the command that a line spells.
+#![tactic(auto)]
+
+mod command;
+/// The laws of script lines, as functions whose contracts state them.
+pub mod laws;
+mod lines;
+mod lists;
+mod parsing;
+mod phrase;
+mod reading;
+#[cfg(test)]
+mod tests;
+mod words;
+
+pub use command::{Command, LineFault, Sel, SignedName, Tgt};
+pub use lines::{Lines, line_count, lines_of};
+pub use lists::{Names, SignedNames};
+pub use parsing::parse;
+pub use words::{first_word, says_nothing};

@@ -1,0 +1,2 @@
+//! The history of a step: modified, generated and removed shapes, as relations on trees.
+#![tactic(auto)]
