@@ -1,5 +1,6 @@
 #!/usr/bin/env bash
-# Times the copy of a large file beside plain tools, in one run: a million vertices in one compound, about 60 MB.
+# Times the copy of a large file beside plain tools, in one run: a million vertices in one compound, about 60 MB. Then it times a rewrite
+# that removes 10,000 shapes of a file of 200,000 records beside the copy of that file.
 # By hand, not in the gate. usage: scripts/bench.sh [VERTICES]
 set -euo pipefail
 here=$(cd "$(dirname "$0")/.." && pwd)
@@ -8,15 +9,19 @@ work=$(mktemp -d)
 trap 'rm -rf "$work"' EXIT
 
 # Vertices with coordinates of usual length, then one compound that uses each of them forward.
-awk -v n="$vertices" 'BEGIN {
-    print "CASCADE Topology V1, (c) Matra-Datavision"
-    print "Locations 0\nCurve2ds 0\nCurves 0\nPolygon3D 0\nPolygonOnTriangulations 0\nSurfaces 0\nTriangulations 0"
-    print "TShapes " n + 1
-    for (i = 0; i < n; i++) printf "Ve\n1e-07\n%d.5125 %d.2575 -%d.125\n0 0\n\n0101101\n*\n", i % 1000, i % 977, i % 991
-    print "Co\n\n1100000"
-    for (i = 0; i < n; i++) printf "+%d 0 ", n + 1 - i
-    print "*\n+1 0"
-}' >"$work/in.brep"
+vertices_in_one_compound() {
+    awk -v n="$1" 'BEGIN {
+        print "CASCADE Topology V1, (c) Matra-Datavision"
+        print "Locations 0\nCurve2ds 0\nCurves 0\nPolygon3D 0\nPolygonOnTriangulations 0\nSurfaces 0\nTriangulations 0"
+        print "TShapes " n + 1
+        for (i = 0; i < n; i++) printf "Ve\n1e-07\n%d.5125 %d.2575 -%d.125\n0 0\n\n0101101\n*\n", i % 1000, i % 977, i % 991
+        print "Co\n\n1100000"
+        for (i = 0; i < n; i++) printf "+%d 0 ", n + 1 - i
+        print "*\n+1 0"
+    }'
+}
+
+vertices_in_one_compound "$vertices" >"$work/in.brep"
 bytes=$(stat -c %s "$work/in.brep")
 "$here/brep" gen 0 0 0 2>/dev/null || true # builds the program, where that is due
 
@@ -42,3 +47,16 @@ awk -v copy="$copy_wall" -v words="$words_wall" -v cat="$cat_wall" -v memory="$c
     printf "%-22s %12.2f\n%-22s %12.2f\n", "copy / wc -w", copy / (words > 0 ? words : 0.01), "copy / cat", copy / (cat > 0 ? cat : 0.01)
     printf "%-22s %12.2f\n", "peak memory / bytes", memory * 1024 / bytes
 }'
+
+# Every twentieth record goes. The compound is number 1, so the vertices have the numbers from 2 on.
+vertices_in_one_compound 199999 >"$work/in.brep"
+seq 2 20 199990 | sed 's/^/remove /' | head -10000 >"$work/script.txt"
+read -r copy_wall copy_cpu _ <<<"$(measure "$here/build/brep" copy "$work/in.brep" "$work/out.brep")"
+read -r rewrite_wall rewrite_cpu _ <<<"$(measure "$here/build/brep" rewrite "$work/in.brep" "$work/script.txt" "$work/out.brep" "$work/history.txt")"
+grep -qx 'TShapes 190000' "$work/out.brep"
+grep -qx 'removed 10000' "$work/history.txt"
+
+echo
+printf '%-22s %12s\n' 'records' 200000 'removes' "$(wc -l <"$work/script.txt")"
+printf '%-22s %12s s wall, %s s of processor\n' 'brep copy' "$copy_wall" "$copy_cpu" 'brep rewrite' "$rewrite_wall" "$rewrite_cpu"
+awk -v rewrite="$rewrite_wall" -v copy="$copy_wall" 'BEGIN { printf "%-22s %12.2f\n", "rewrite / copy", rewrite / (copy > 0 ? copy : 0.01) }'
