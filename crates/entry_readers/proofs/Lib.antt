@@ -1,0 +1,4 @@
+pub mod Binds
+pub mod FieldLaws
+pub mod Spelling
+pub mod Steps

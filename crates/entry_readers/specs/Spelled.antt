@@ -1,0 +1,35 @@
+-- The texts that an iterator over the tokens of fields has still to give.
+use Rattle.std.specs.Prelude.{◌≡◌, ◌≤◌, ℕ, if◌then◌else◌, List, [], ◌∷◌, length, map, drop, take}
+use Rattle.std.specs.List.{AllByRecursion}
+use Rattle.std.specs.Fmt.{decimal}
+use Rattle.entry_readers.specs.Begins.{zipped}
+use Rattle.entry_readers.specs.declared.spell.HeaderSpell.{HeaderSpell}
+use Rattle.entry_readers.specs.declared.spell.DecimalsSpell.{DecimalsSpell}
+use Rattle.entry_readers.specs.declared.spell.KnotsSpell.{KnotsSpell}
+use Rattle.entry_readers.specs.declared.spell.NumbersSpell.{NumbersSpell}
+
+abbrev pub header_left : HeaderSpell → List (List ℕ)
+header_left s = map decimal (drop s.at (take s.len s.numbers))
+
+abbrev pub texts_left : DecimalsSpell → List (List ℕ)
+texts_left s = drop s.at s.texts.now
+
+abbrev pub numbers_left : NumbersSpell → List (List ℕ)
+numbers_left s = map decimal (drop s.at s.numbers.now)
+
+-- each has at most 128 bytes, so that it is a token
+abbrev pub AreShort : List (List ℕ) → Type 0
+AreShort texts = AllByRecursion (λ x. length x ≤ 128) texts
+
+-- the number in front, where its text was given
+abbrev pub count_then : List (List ℕ) → List ℕ → List (List ℕ)
+count_then xs [] = []
+count_then [] (n ∷ ns) = []
+count_then (x ∷ xs) (n ∷ ns) = decimal n ∷ zipped xs ns
+
+abbrev pub pairs_left : KnotsSpell → List (List ℕ)
+pairs_left s = if s.half then count_then (drop s.at s.texts.now) (drop s.at s.counts.now) else zipped (drop s.at s.texts.now) (drop s.at s.counts.now)
+
+pub record CanPair (s : KnotsSpell) : Type 0 where
+  pub even : length s.texts.now ≡ length s.counts.now
+  pub short : AreShort (drop s.at s.texts.now)
