@@ -7,18 +7,18 @@ use Rattle.expansion_laws.specs.Expansion.{IsNumberOf, tree_of_number}
 use Rattle.expansion_laws.specs.Sharing.{with_origins}
 use Rattle.expansion_laws.specs.Walk.{RecordsAreTrees}
 use Rattle.expansion_laws.specs.Written.{flat, origins_of}
-use Rattle.brep_run.specs.declared.file.File.{File}
+use Rattle.brep_file.specs.declared.file.File.{File}
 use Rattle.brep_run.specs.declared.outcome.Outcome.{Outcome}
 use Rattle.brep_run.specs.declared.outcome.Outcome.TheVariants.{Done, Usage, NotBuilt, Script, Limit, ReadDesk, WriteDesk, NoMemory}
 use Rattle.brep_run.specs.Outcomes.{OnDone}
-use Rattle.brep_run.specs.PlainRecords.{plain_records, plain_use, expansion_of}
-use Rattle.brep_run.specs.Sound.{IsSound}
-use Rattle.brep_run.specs.Reads.{Spells}
+use Rattle.brep_file.specs.PlainRecords.{plain_records, plain_use, expansion_of}
+use Rattle.brep_file.specs.Sound.{IsSound}
+use Rattle.brep_file.specs.Reads.{Spells}
 use Rattle.brep_run.specs.Copies.{IsTextFor, SharesEqualTrees, TextsStandForRoots}
 use Rattle.brep_run.specs.Words.{Asked, copies}
 use Rattle.brep_run.specs.Copy.{IsDue, OutWritten, IsMade}
 use Rattle.brep_run.specs.Runs.{Expands, Shares}
-use Rattle.brep_run.specs.ReadingLaws.{ReadingIsExact}
+use Rattle.brep_file.specs.ReadingLaws.{ReadingIsExact}
 
 some-same : {A : Type 0} (x y : A) → Some x ≡ Some y → x ≡ y
 some-same x y e = cc

@@ -15,11 +15,11 @@ use Rattle.expansion_laws.specs.Written.{flat}
 use Rattle.expansion_laws.specs.Fewest.{NoFileHasFewer}
 use Rattle.expansion_laws.specs.Walk.{RecordsAreTrees}
 use Rattle.expansion_laws.proofs.Members.{Contains-map_cases, at_place}
-use Rattle.brep_run.specs.declared.file.FileUse.{FileUse}
-use Rattle.brep_run.specs.declared.file.Record.{Record}
-use Rattle.brep_run.specs.declared.file.File.{File}
-use Rattle.brep_run.specs.PlainRecords.{record_of, plain_use, plain_records, tree_of_record, expansion_of}
-use Rattle.brep_run.specs.Sound.{IsUse, IsSound}
+use Rattle.brep_file.specs.declared.file.FileUse.{FileUse}
+use Rattle.brep_file.specs.declared.file.Record.{Record}
+use Rattle.brep_file.specs.declared.file.File.{File}
+use Rattle.brep_file.specs.PlainRecords.{record_of, plain_use, plain_records, tree_of_record, expansion_of}
+use Rattle.brep_file.specs.Sound.{IsUse, IsSound}
 use Rattle.brep_run.specs.Dress.{head_for, made_head, rebuilt}
 use Rattle.brep_run.specs.Copies.{CanBeWritten}
 use Rattle.brep_run.proofs.NumberedRecords.{NamesAboveIts, map-from_end, names_from-numbers}

@@ -12,8 +12,8 @@ use Rattle.expansion_laws.proofs.Members.{by_test, Contains-here, Contains-there
 use Rattle.history_text.specs.declared.file.HistoryFile.{HistoryFile}
 use Rattle.history_text.specs.HistoryText.{Ascend, is_pair_below, IsShort, IsPairOf, ArePairs, IsHistory}
 use Rattle.step_history.specs.History.{modified}
-use Rattle.brep_run.specs.declared.file.File.{File}
-use Rattle.brep_run.specs.Sound.{IsSound}
+use Rattle.brep_file.specs.declared.file.File.{File}
+use Rattle.brep_file.specs.Sound.{IsSound}
 use Rattle.brep_run.specs.Copies.{CanBeWritten, IsTextFor, TextsStandForRoots}
 use Rattle.brep_run.specs.Removal.{Ascends, RemovalDone, origins_written, history_after, ArePairsOf}
 use Rattle.brep_run.specs.Rewrite.{AreTextsOf, IsHistoryOf}

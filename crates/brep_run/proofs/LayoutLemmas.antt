@@ -15,15 +15,15 @@ use Rattle.orientation.specs.Kinds.{name_of}
 use Rattle.orientation.specs.Turns.{sign_of}
 use Rattle.brep_tokens.specs.Bytes.{is_flag, is_sign}
 use Rattle.brep_tokens.specs.Written.{IsPlain, WrittenIsRead}
-use Rattle.brep_run.specs.declared.file.FileUse.{FileUse}
-use Rattle.brep_run.specs.declared.file.Flags.{Flags}
-use Rattle.brep_run.specs.declared.file.Payload.{Payload}
-use Rattle.brep_run.specs.declared.file.Payload.TheVariants.{Vertex, Nothing}
-use Rattle.brep_run.specs.declared.file.Record.{Record}
-use Rattle.brep_run.specs.declared.file.File.{File}
-use Rattle.brep_run.specs.Spelling.{spell_use, spell_flags, flag_code, spell_payload, spell_record, spell_file, section}
-use Rattle.brep_run.specs.Sound.{IsDecimalText, IsShaped, IsSound}
-use Rattle.brep_run.specs.Reads.{Spells}
+use Rattle.brep_file.specs.declared.file.FileUse.{FileUse}
+use Rattle.brep_file.specs.declared.file.Flags.{Flags}
+use Rattle.brep_file.specs.declared.file.Payload.{Payload}
+use Rattle.brep_file.specs.declared.file.Payload.TheVariants.{Vertex, Nothing}
+use Rattle.brep_file.specs.declared.file.Record.{Record}
+use Rattle.brep_file.specs.declared.file.File.{File}
+use Rattle.brep_file.specs.Spelling.{spell_use, spell_flags, flag_code, spell_payload, spell_record, spell_file, section}
+use Rattle.brep_file.specs.Sound.{IsDecimalText, IsShaped, IsSound}
+use Rattle.brep_file.specs.Reads.{Spells}
 use Rattle.brep_run.specs.Layout.{Line, payload_lines, record_lines, table_lines, file_lines, layout}
 
 -- ---- the words in their order

@@ -8,9 +8,9 @@ use Rattle.std.proofs.lemmas.List.Folds.{flat_map-map}
 use Rattle.brep_tokens.specs.Written.{line_text, lines_text}
 use Rattle.orientation.specs.Turns.{sign_of}
 use Rattle.orientation.specs.Kinds.{name_of}
-use Rattle.brep_run.specs.declared.file.FileUse.{FileUse}
-use Rattle.brep_run.specs.declared.file.Record.{Record}
-use Rattle.brep_run.specs.Spelling.{spell_use, spell_flags}
+use Rattle.brep_file.specs.declared.file.FileUse.{FileUse}
+use Rattle.brep_file.specs.declared.file.Record.{Record}
+use Rattle.brep_file.specs.Spelling.{spell_use, spell_flags}
 use Rattle.brep_run.specs.Layout.{Line, payload_lines, record_lines}
 use Rattle.brep_run.specs.Completion.{renumbered, renumbered_use}
 

@@ -9,9 +9,9 @@ use Rattle.orientation.specs.declared.turn.Turn.TheVariants.{Forward}
 use Rattle.expansion_laws.specs.Trees.{Tree, Use, uses, tree_of, origin}
 use Rattle.expansion_laws.specs.Equality.{tree_eq}
 use Rattle.expansion_laws.proofs.Members.{Contains-none, Contains-cases}
-use Rattle.brep_run.specs.declared.file.File.{File}
-use Rattle.brep_run.specs.declared.file.Record.{Record}
-use Rattle.brep_run.specs.PlainRecords.{record_of, tree_of_record}
+use Rattle.brep_file.specs.declared.file.File.{File}
+use Rattle.brep_file.specs.declared.file.Record.{Record}
+use Rattle.brep_file.specs.PlainRecords.{record_of, tree_of_record}
 use Rattle.brep_run.specs.Dress.{head_for, made_head, rebuilt}
 use Rattle.brep_run.specs.Copies.{CanBeWritten}
 use Rattle.brep_run.specs.Layout.{layout}

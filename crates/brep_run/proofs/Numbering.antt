@@ -11,10 +11,10 @@ use Rattle.expansion_laws.specs.Trees.{uses, uses_of}
 use Rattle.expansion_laws.specs.Equality.{tree_eq}
 use Rattle.expansion_laws.specs.Expansion.{IsNumberOf, expanded, trees_of_file}
 use Rattle.expansion_laws.specs.Written.{completed, completed_uses, number_in}
-use Rattle.brep_run.specs.declared.file.FileUse.{FileUse}
-use Rattle.brep_run.specs.declared.file.Record.{Record}
-use Rattle.brep_run.specs.declared.file.File.{File}
-use Rattle.brep_run.specs.PlainRecords.{record_of, plain_use, plain_records, tree_of_record}
+use Rattle.brep_file.specs.declared.file.FileUse.{FileUse}
+use Rattle.brep_file.specs.declared.file.Record.{Record}
+use Rattle.brep_file.specs.declared.file.File.{File}
+use Rattle.brep_file.specs.PlainRecords.{record_of, plain_use, plain_records, tree_of_record}
 use Rattle.brep_run.specs.Completion.{NumbersTell, ArePlaced, Completes, CompletesUses, use_of_tree, new_number}
 use Rattle.brep_run.proofs.CompletedTrees.{completed-done, completed-new, completed_uses-push, any_at, any_none, number_at, number_none}
 

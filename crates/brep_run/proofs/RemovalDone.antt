@@ -14,17 +14,18 @@ use Rattle.expansion_laws.specs.Walk.{RecordsAreTrees}
 use Rattle.expansion_laws.specs.Written.{flat, IsWritten}
 use Rattle.expansion_laws.proofs.Members.{by_test, Contains-here, Contains-there, Contains-none, place_of}
 use Rattle.step_history.specs.History.{IsTold, OccursIn, modified, step_history}
-use Rattle.brep_run.specs.declared.file.FileUse.{FileUse}
-use Rattle.brep_run.specs.declared.file.Record.{Record}
-use Rattle.brep_run.specs.declared.file.File.{File}
-use Rattle.brep_run.specs.PlainRecords.{record_of, plain_use, plain_records, tree_of_record, expansion_of}
-use Rattle.brep_run.specs.Sound.{IsUse, IsSound}
+use Rattle.brep_file.specs.declared.file.FileUse.{FileUse}
+use Rattle.brep_file.specs.declared.file.Record.{Record}
+use Rattle.brep_file.specs.declared.file.File.{File}
+use Rattle.brep_file.specs.PlainRecords.{record_of, plain_use, plain_records, tree_of_record, expansion_of}
+use Rattle.brep_file.specs.Sound.{IsUse, IsSound}
 use Rattle.brep_run.specs.Dress.{head_of}
 use Rattle.brep_run.specs.Completion.{NumbersTell, ArePlaced, Completes}
 use Rattle.brep_run.specs.Copies.{CanBeWritten}
 use Rattle.brep_run.specs.WrittenFile.{text_of}
 use Rattle.brep_run.specs.Removal.{removal_step, tree_written, IsRootAfter, history_after, no_history, ArePairsOf, AreNumbersOf, RemovalDone, Ascends, origins_written}
-use Rattle.brep_run.specs.Remaining.{is_among, is_told, has_place, is_gone, is_modified, passing, pair_of, kept_uses, kept_records, tree_after, made_root, RootStays, RootGoes}
+use Rattle.brep_run.specs.Remaining.{is_among, is_told, has_place, is_gone, is_modified, passing, pair_of, kept_records, tree_after, made_root, RootStays, RootGoes}
+use Rattle.brep_file.specs.Marks.{kept_uses}
 use Rattle.brep_run.proofs.CopyLemmas.{stands-below}
 use Rattle.brep_run.proofs.KeptLists.{filter-all, map-same}
 use Rattle.brep_run.proofs.MadeRoot.{made-only, made-writable}

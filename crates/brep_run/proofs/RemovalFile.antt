@@ -15,18 +15,19 @@ use Rattle.expansion_laws.specs.Walk.{RecordsAreTrees}
 use Rattle.expansion_laws.specs.Written.{flat, IsWritten}
 use Rattle.expansion_laws.proofs.Members.{by_test, Contains-here, Contains-there, at_place}
 use Rattle.expansion_laws.proofs.Subtrees.{subtrees-itself, subtrees-use, subtrees-onward}
-use Rattle.brep_run.specs.declared.file.FileUse.{FileUse}
-use Rattle.brep_run.specs.declared.file.Head.{Head}
-use Rattle.brep_run.specs.declared.file.Record.{Record}
-use Rattle.brep_run.specs.declared.file.File.{File}
-use Rattle.brep_run.specs.PlainRecords.{record_of, plain_use, plain_records, tree_of_record, expansion_of}
-use Rattle.brep_run.specs.Sound.{IsShaped, IsUse, IsRecord, IsSound}
+use Rattle.brep_file.specs.declared.file.FileUse.{FileUse}
+use Rattle.brep_file.specs.declared.file.Head.{Head}
+use Rattle.brep_file.specs.declared.file.Record.{Record}
+use Rattle.brep_file.specs.declared.file.File.{File}
+use Rattle.brep_file.specs.PlainRecords.{record_of, plain_use, plain_records, tree_of_record, expansion_of}
+use Rattle.brep_file.specs.Sound.{IsShaped, IsUse, IsRecord, IsSound}
 use Rattle.brep_run.specs.Dress.{head_for, head_of, made_head, rebuilt}
 use Rattle.brep_run.specs.Completion.{NumbersTell, use_of_tree}
 use Rattle.brep_run.specs.Copies.{CanBeWritten}
 use Rattle.brep_run.specs.Layout.{layout}
 use Rattle.brep_run.specs.WrittenFile.{written_use, written_record, text_of}
-use Rattle.brep_run.specs.Remaining.{kept_uses, kept_records, tree_after, record_after, IsFileAfter, is_told, is_gone, is_modified, has_place, mark_of, passing}
+use Rattle.brep_run.specs.Remaining.{kept_records, tree_after, record_after, IsFileAfter, is_told, is_gone, is_modified, has_place, passing}
+use Rattle.brep_file.specs.Marks.{kept_uses, mark_of}
 use Rattle.brep_run.proofs.CopyLemmas.{record-at, kind-for, file-sound, stands-below}
 use Rattle.brep_run.proofs.KeptLists.{by_places, filter-yes, filter-no, map-same}
 use Rattle.brep_run.proofs.Passing.{passing-same}

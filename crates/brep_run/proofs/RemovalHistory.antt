@@ -15,13 +15,14 @@ use Rattle.expansion_laws.specs.Walk.{RecordsAreTrees}
 use Rattle.expansion_laws.specs.Written.{flat, IsWritten}
 use Rattle.expansion_laws.proofs.Members.{by_test, Contains-map, Contains-map_cases}
 use Rattle.step_history.specs.History.{History, IsTold, OccursIn, modified, step_history}
-use Rattle.brep_run.specs.declared.file.FileUse.{FileUse}
-use Rattle.brep_run.specs.declared.file.File.{File}
-use Rattle.brep_run.specs.PlainRecords.{tree_of_record, expansion_of}
+use Rattle.brep_file.specs.declared.file.FileUse.{FileUse}
+use Rattle.brep_file.specs.declared.file.File.{File}
+use Rattle.brep_file.specs.PlainRecords.{tree_of_record, expansion_of}
 use Rattle.brep_run.specs.Dress.{head_of}
 use Rattle.brep_run.specs.Completion.{NumbersTell, ArePlaced, Completes, new_number}
 use Rattle.brep_run.specs.Removal.{removal_step, tree_written, AreInRange, ArePairsOf, AreNumbersOf}
-use Rattle.brep_run.specs.Remaining.{is_told, mark_of, kept_records, tree_after, has_place, is_gone, is_modified, passing, pair_of, IsFileAfter, AreChanges}
+use Rattle.brep_run.specs.Remaining.{is_told, kept_records, tree_after, has_place, is_gone, is_modified, passing, pair_of, IsFileAfter, AreChanges}
+use Rattle.brep_file.specs.Marks.{mark_of}
 use Rattle.brep_run.proofs.CopyLemmas.{Stands, stands-below}
 use Rattle.brep_run.proofs.Numbering.{plain_number}
 use Rattle.brep_run.proofs.Passing.{Passes, passing-member, passing-has}

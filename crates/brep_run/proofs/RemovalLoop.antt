@@ -10,14 +10,15 @@ use Rattle.expansion_laws.specs.Expansion.{IsNumberOf}
 use Rattle.expansion_laws.specs.Trees.{origin}
 use Rattle.expansion_laws.specs.Walk.{RecordsAreTrees}
 use Rattle.expansion_laws.proofs.Members.{by_test}
-use Rattle.brep_run.specs.declared.file.FileUse.{FileUse}
-use Rattle.brep_run.specs.declared.file.Head.{Head}
-use Rattle.brep_run.specs.declared.file.Record.{Record}
-use Rattle.brep_run.specs.declared.file.File.{File}
-use Rattle.brep_run.specs.PlainRecords.{record_of, tree_of_record}
+use Rattle.brep_file.specs.declared.file.FileUse.{FileUse}
+use Rattle.brep_file.specs.declared.file.Head.{Head}
+use Rattle.brep_file.specs.declared.file.Record.{Record}
+use Rattle.brep_file.specs.declared.file.File.{File}
+use Rattle.brep_file.specs.PlainRecords.{record_of, tree_of_record}
 use Rattle.brep_run.specs.Dress.{head_for, made_head, rebuilt}
 use Rattle.brep_run.specs.Completion.{NumbersTell}
-use Rattle.brep_run.specs.Remaining.{kept_uses, kept_records, tree_after, record_after, mark_of, is_touched, touched, IsFileAfter, AreChanges}
+use Rattle.brep_run.specs.Remaining.{kept_records, tree_after, record_after, is_touched, touched, IsFileAfter, AreChanges}
+use Rattle.brep_file.specs.Marks.{kept_uses, mark_of}
 use Rattle.brep_run.proofs.CopyLemmas.{record-at}
 use Rattle.brep_run.proofs.KeptLists.{filter-all, any-none}
 use Rattle.brep_run.proofs.WrittenSound.{perhaps}

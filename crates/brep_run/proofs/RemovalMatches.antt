@@ -11,8 +11,8 @@ use Rattle.expansion_laws.specs.Contexts.{Context}
 use Rattle.expansion_laws.specs.Expansion.{IsNumberOf}
 use Rattle.expansion_laws.specs.Requests.{Request, remove, fits, match_of}
 use Rattle.expansion_laws.proofs.Members.{by_test, Contains-here, Contains-there, Contains-none, Contains-map, Contains-map_cases, list_any-found}
-use Rattle.brep_run.specs.declared.file.File.{File}
-use Rattle.brep_run.specs.PlainRecords.{tree_of_record}
+use Rattle.brep_file.specs.declared.file.File.{File}
+use Rattle.brep_file.specs.PlainRecords.{tree_of_record}
 use Rattle.brep_run.specs.Completion.{NumbersTell}
 use Rattle.brep_run.specs.Removal.{removals}
 use Rattle.brep_run.specs.Remaining.{is_among}

@@ -10,13 +10,14 @@ use Rattle.expansion_laws.specs.Steps.{Step}
 use Rattle.expansion_laws.specs.Rewriting.{joined, all_results, rebuilt, by_act, by_match, results_within, Rewrites}
 use Rattle.expansion_laws.specs.Walk.{RecordsAreTrees}
 use Rattle.expansion_laws.proofs.Members.{by_test, Contains-here, Contains-there}
-use Rattle.brep_run.specs.declared.file.FileUse.{FileUse}
-use Rattle.brep_run.specs.declared.file.Record.{Record}
-use Rattle.brep_run.specs.declared.file.File.{File}
-use Rattle.brep_run.specs.PlainRecords.{record_of, tree_of_record}
+use Rattle.brep_file.specs.declared.file.FileUse.{FileUse}
+use Rattle.brep_file.specs.declared.file.Record.{Record}
+use Rattle.brep_file.specs.declared.file.File.{File}
+use Rattle.brep_file.specs.PlainRecords.{record_of, tree_of_record}
 use Rattle.brep_run.specs.Completion.{NumbersTell, use_of_tree}
 use Rattle.brep_run.specs.Removal.{removals, removal_step}
-use Rattle.brep_run.specs.Remaining.{is_among, kept_uses, kept_records, tree_after}
+use Rattle.brep_run.specs.Remaining.{is_among, kept_records, tree_after}
+use Rattle.brep_file.specs.Marks.{kept_uses}
 use Rattle.brep_run.proofs.CopyLemmas.{record-at}
 use Rattle.brep_run.proofs.KeptLists.{filter-yes, filter-no}
 use Rattle.brep_run.proofs.Numbering.{uses_of_tree, plain_number}

@@ -11,8 +11,8 @@ use Rattle.expansion_laws.specs.Expansion.{IsNumberOf}
 use Rattle.expansion_laws.specs.Measures.{subtrees}
 use Rattle.expansion_laws.specs.Written.{flat, ListsSubtrees}
 use Rattle.expansion_laws.proofs.Members.{by_test, Contains-map, Contains-map_cases, place_of}
-use Rattle.brep_run.specs.declared.file.File.{File}
-use Rattle.brep_run.specs.PlainRecords.{tree_of_record}
+use Rattle.brep_file.specs.declared.file.File.{File}
+use Rattle.brep_file.specs.PlainRecords.{tree_of_record}
 use Rattle.brep_run.specs.Completion.{NumbersTell, ArePlaced, new_number}
 use Rattle.brep_run.specs.Removal.{tree_written}
 use Rattle.brep_run.specs.Remaining.{has_place}

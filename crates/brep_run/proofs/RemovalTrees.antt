@@ -12,13 +12,14 @@ use Rattle.expansion_laws.specs.Expansion.{NumberedUse, IsNumberOf, IsFile, expa
 use Rattle.expansion_laws.specs.Walk.{RecordsAreTrees}
 use Rattle.expansion_laws.proofs.Members.{by_test, list_any-found}
 use Rattle.expansion_laws.proofs.Subtrees.{uses_of-list_of}
-use Rattle.brep_run.specs.declared.file.FileUse.{FileUse}
-use Rattle.brep_run.specs.declared.file.Record.{Record}
-use Rattle.brep_run.specs.declared.file.File.{File}
-use Rattle.brep_run.specs.PlainRecords.{record_of, plain_use, plain_records, tree_of_record}
-use Rattle.brep_run.specs.Sound.{IsUse, IsSound}
+use Rattle.brep_file.specs.declared.file.FileUse.{FileUse}
+use Rattle.brep_file.specs.declared.file.Record.{Record}
+use Rattle.brep_file.specs.declared.file.File.{File}
+use Rattle.brep_file.specs.PlainRecords.{record_of, plain_use, plain_records, tree_of_record}
+use Rattle.brep_file.specs.Sound.{IsUse, IsSound}
 use Rattle.brep_run.specs.Completion.{NumbersTell, use_of_tree}
-use Rattle.brep_run.specs.Remaining.{kept_uses, kept_records, tree_after, is_touched}
+use Rattle.brep_run.specs.Remaining.{kept_records, tree_after, is_touched}
+use Rattle.brep_file.specs.Marks.{kept_uses}
 use Rattle.brep_run.proofs.CopyLemmas.{record-at}
 use Rattle.brep_run.proofs.KeptLists.{filter-all, any-none, map-same, map-kept}
 use Rattle.brep_run.proofs.NumberedRecords.{NamesAboveIts, map-from_end, names_from-numbers}

@@ -14,12 +14,13 @@ use Rattle.expansion_laws.specs.Visits.{LeadsTo, itself, onto, IsImage}
 use Rattle.expansion_laws.specs.Walk.{RecordsAreTrees}
 use Rattle.expansion_laws.proofs.Members.{by_test, Contains-cases, Contains-none, Contains-here, Contains-map, Contains-map_cases}
 use Rattle.expansion_laws.proofs.Subtrees.{subtrees-itself, subtrees-cases, subtrees-use}
-use Rattle.brep_run.specs.declared.file.FileUse.{FileUse}
-use Rattle.brep_run.specs.declared.file.File.{File}
-use Rattle.brep_run.specs.PlainRecords.{tree_of_record, expansion_of}
+use Rattle.brep_file.specs.declared.file.FileUse.{FileUse}
+use Rattle.brep_file.specs.declared.file.File.{File}
+use Rattle.brep_file.specs.PlainRecords.{tree_of_record, expansion_of}
 use Rattle.brep_run.specs.Completion.{NumbersTell, use_of_tree}
 use Rattle.brep_run.specs.Removal.{removal_step}
-use Rattle.brep_run.specs.Remaining.{kept_uses, kept_records, tree_after}
+use Rattle.brep_run.specs.Remaining.{kept_records, tree_after}
+use Rattle.brep_file.specs.Marks.{kept_uses}
 use Rattle.brep_run.proofs.CopyLemmas.{record-at}
 use Rattle.brep_run.proofs.KeptLists.{filter-keeps, filter-member}
 use Rattle.brep_run.proofs.Numbering.{uses_of_tree}

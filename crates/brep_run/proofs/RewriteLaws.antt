@@ -6,16 +6,16 @@ use Rattle.brep_desk.specs.Causes.{Rose}
 use Rattle.expansion_laws.specs.Walk.{RecordsAreTrees}
 use Rattle.expansion_laws.specs.Trees.{Use}
 use Rattle.script_text.specs.Lines.{script_line_count}
-use Rattle.brep_run.specs.declared.file.File.{File}
+use Rattle.brep_file.specs.declared.file.File.{File}
 use Rattle.brep_run.specs.declared.outcome.Outcome.{Outcome}
 use Rattle.brep_run.specs.declared.outcome.Outcome.TheVariants.{Done, Usage, NotBuilt, Script, Limit, ReadDesk, WriteDesk, NoMemory}
 use Rattle.brep_run.specs.declared.outcome.LimitKind.{LimitKind}
 use Rattle.brep_run.specs.declared.outcome.LimitKind.TheVariants.{FileBytes, ScriptBytes, ScriptLines}
 use Rattle.brep_run.specs.Outcomes.{OnDone, OnUsage, OnNotBuilt, IfLimit, IfReadDesk, IfScript, IfWriteDesk, IsDoneOrNoMemory, IsReadDeskOrNoMemory}
-use Rattle.brep_run.specs.PlainRecords.{plain_records}
-use Rattle.brep_run.specs.Sound.{IsSound}
-use Rattle.brep_run.specs.Reads.{Reads, Spells}
-use Rattle.brep_run.specs.ReadingLaws.{ReadingIsExact}
+use Rattle.brep_file.specs.PlainRecords.{plain_records}
+use Rattle.brep_file.specs.Sound.{IsSound}
+use Rattle.brep_file.specs.Reads.{Reads, Spells}
+use Rattle.brep_file.specs.ReadingLaws.{ReadingIsExact}
 use Rattle.brep_run.specs.declared.outcome.ScriptFault.{ScriptFault}
 use Rattle.brep_run.specs.Copies.{IsTextFor}
 use Rattle.brep_run.specs.Copy.{Holds, Counts, OutWritten, most_bytes}

@@ -11,9 +11,9 @@ use Rattle.expansion_laws.specs.Written.{flat, number_in, numbered, records_of, 
 use Rattle.expansion_laws.specs.Walk.{RecordsAreTrees}
 use Rattle.expansion_laws.proofs.Members.{Contains-at}
 use Rattle.expansion_laws.proofs.Relabelling.{relabelled-twice, relabelled-same}
-use Rattle.brep_run.specs.declared.file.Record.{Record}
-use Rattle.brep_run.specs.declared.file.File.{File}
-use Rattle.brep_run.specs.PlainRecords.{plain_use, expansion_of}
+use Rattle.brep_file.specs.declared.file.Record.{Record}
+use Rattle.brep_file.specs.declared.file.File.{File}
+use Rattle.brep_file.specs.PlainRecords.{plain_use, expansion_of}
 use Rattle.brep_run.specs.Dress.{Dressed, dressed, head_for, head_of, made_head, dress, full}
 use Rattle.brep_run.specs.WrittenFile.{written_file}
 use Rattle.brep_run.specs.Copies.{CanBeWritten, StandsFor}

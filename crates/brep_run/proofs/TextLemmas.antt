@@ -6,10 +6,10 @@ use Rattle.expansion_laws.specs.Written.{flat, numbered, records_of, IsWritten}
 use Rattle.expansion_laws.specs.Fewest.{NoFileHasFewer}
 use Rattle.expansion_laws.specs.Walk.{RecordsAreTrees}
 use Rattle.brep_tokens.specs.Written.{WrittenIsRead}
-use Rattle.brep_run.specs.declared.file.File.{File}
-use Rattle.brep_run.specs.PlainRecords.{plain_records, plain_use, expansion_of}
-use Rattle.brep_run.specs.Sound.{IsSound}
-use Rattle.brep_run.specs.ReadingLaws.{ReadingIsExact}
+use Rattle.brep_file.specs.declared.file.File.{File}
+use Rattle.brep_file.specs.PlainRecords.{plain_records, plain_use, expansion_of}
+use Rattle.brep_file.specs.Sound.{IsSound}
+use Rattle.brep_file.specs.ReadingLaws.{ReadingIsExact}
 use Rattle.brep_run.specs.WrittenFile.{written_file, text_of}
 use Rattle.brep_run.specs.Copies.{CanBeWritten, IsTextFor, TextsStandForRoots}
 use Rattle.brep_run.proofs.LayoutLemmas.{layout-spells}

@@ -13,11 +13,11 @@ use Rattle.expansion_laws.specs.Expansion.{NumberedUse, IsNumberOf, tree_of_numb
 use Rattle.expansion_laws.specs.Written.{flat, number_in, numbered, records_of, IsWritten}
 use Rattle.expansion_laws.proofs.Members.{Contains-at, Contains-map, at_place}
 use Rattle.expansion_laws.proofs.Subtrees.{subtrees-itself, subtrees-use, subtrees-onward}
-use Rattle.brep_run.specs.declared.file.Head.{Head}
-use Rattle.brep_run.specs.declared.file.Record.{Record}
-use Rattle.brep_run.specs.declared.file.File.{File}
-use Rattle.brep_run.specs.PlainRecords.{record_of, plain_use, plain_records, tree_of_record}
-use Rattle.brep_run.specs.Sound.{IsShaped, IsUse, IsRecord, IsSound}
+use Rattle.brep_file.specs.declared.file.Head.{Head}
+use Rattle.brep_file.specs.declared.file.Record.{Record}
+use Rattle.brep_file.specs.declared.file.File.{File}
+use Rattle.brep_file.specs.PlainRecords.{record_of, plain_use, plain_records, tree_of_record}
+use Rattle.brep_file.specs.Sound.{IsShaped, IsUse, IsRecord, IsSound}
 use Rattle.brep_run.specs.Dress.{head_for, made_head, rebuilt}
 use Rattle.brep_run.specs.WrittenFile.{written_use, written_record, written_file}
 use Rattle.brep_run.specs.Copies.{CanBeWritten}

@@ -13,13 +13,13 @@ use Rattle.expansion_laws.specs.Trees.{Tree, uses}
 use Rattle.expansion_laws.specs.Equality.{tree_eq}
 use Rattle.expansion_laws.specs.Expansion.{IsNumberOf}
 use Rattle.orientation.specs.declared.turn.Turn.{Turn}
-use Rattle.brep_run.specs.declared.file.FileUse.{FileUse}
-use Rattle.brep_run.specs.declared.file.Record.{Record}
-use Rattle.brep_run.specs.declared.file.File.{File}
-use Rattle.brep_run.specs.PlainRecords.{record_of, tree_of_record, expansion_of}
+use Rattle.brep_file.specs.declared.file.FileUse.{FileUse}
+use Rattle.brep_file.specs.declared.file.Record.{Record}
+use Rattle.brep_file.specs.declared.file.File.{File}
+use Rattle.brep_file.specs.PlainRecords.{record_of, tree_of_record, expansion_of}
 use Rattle.brep_run.specs.Dress.{head_for, rebuilt, made_head}
 use Rattle.brep_run.specs.Layout.{table_lines, record_lines, layout}
-use Rattle.brep_run.specs.Spelling.{spell_use, section}
+use Rattle.brep_file.specs.Spelling.{spell_use, section}
 use Rattle.brep_run.specs.WrittenFile.{written_use, written_record, text_of}
 use Rattle.brep_run.specs.Completion.{NumbersTell, ArePlaced, Completes, use_of_tree, renumbered_use, renumbered, lines_of_number}
 use Rattle.brep_run.proofs.Numbering.{plain_number, same_tree, uses_of_tree, number_of_tree}

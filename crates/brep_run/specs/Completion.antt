@@ -7,12 +7,12 @@ use Rattle.expansion_laws.specs.Equality.{tree_eq}
 use Rattle.expansion_laws.specs.Expansion.{IsNumberOf, expanded, trees_of_file}
 use Rattle.expansion_laws.specs.Walk.{RecordsAreTrees}
 use Rattle.expansion_laws.specs.Written.{completed, completed_uses}
-use Rattle.brep_run.specs.declared.file.FileUse.{FileUse}
-use Rattle.brep_run.specs.declared.file.Record.{Record}
-use Rattle.brep_run.specs.declared.file.File.{File}
-use Rattle.brep_run.specs.PlainRecords.{plain_use, plain_records, record_of, tree_of_record}
+use Rattle.brep_file.specs.declared.file.FileUse.{FileUse}
+use Rattle.brep_file.specs.declared.file.Record.{Record}
+use Rattle.brep_file.specs.declared.file.File.{File}
+use Rattle.brep_file.specs.PlainRecords.{plain_use, plain_records, record_of, tree_of_record}
 use Rattle.brep_run.specs.Layout.{record_lines}
-use Rattle.brep_run.specs.Sound.{IsSound}
+use Rattle.brep_file.specs.Sound.{IsSound}
 
 -- the numbers of a sound file's records tell its trees apart
 pub record NumbersTell (f : File) : Type 0 where

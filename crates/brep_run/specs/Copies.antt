@@ -6,12 +6,12 @@ use Rattle.expansion_laws.specs.Measures.{depth, subtrees}
 use Rattle.expansion_laws.specs.Expansion.{IsNumberOf}
 use Rattle.expansion_laws.specs.Sharing.{with_origins, use_with_origins, IsShared}
 use Rattle.expansion_laws.specs.Written.{flat, origins_of}
-use Rattle.brep_run.specs.declared.file.File.{File}
-use Rattle.brep_run.specs.PlainRecords.{plain_records, plain_use, expansion_of}
-use Rattle.brep_run.specs.Sound.{IsSound}
+use Rattle.brep_file.specs.declared.file.File.{File}
+use Rattle.brep_file.specs.PlainRecords.{plain_records, plain_use, expansion_of}
+use Rattle.brep_file.specs.Sound.{IsSound}
 use Rattle.brep_run.specs.Dress.{full, dress, head_for}
 use Rattle.brep_run.specs.WrittenFile.{text_of}
-use Rattle.brep_run.specs.Reads.{Spells}
+use Rattle.brep_file.specs.Reads.{Spells}
 
 -- A root over the records of a file can be written as a file again.
 pub record CanBeWritten (f : File) (root : Use) : Type 0 where

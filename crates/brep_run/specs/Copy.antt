@@ -3,9 +3,9 @@ use Rattle.std.specs.Prelude.{ℕ, ◌≡◌, ◌⊎◌, ◌+◌, ◌≤◌, IsT
 use Rattle.brep_desk.specs.Shown.{Shown, Tells, ChangesOnly}
 use Rattle.brep_desk.specs.Whole.{NoMoreOpen}
 use Rattle.brep_desk.specs.Causes.{Rose}
-use Rattle.brep_run.specs.declared.file.File.{File}
-use Rattle.brep_run.specs.PlainRecords.{expansion_of}
-use Rattle.brep_run.specs.Reads.{Reads, Spells}
+use Rattle.brep_file.specs.declared.file.File.{File}
+use Rattle.brep_file.specs.PlainRecords.{expansion_of}
+use Rattle.brep_file.specs.Reads.{Reads, Spells}
 use Rattle.brep_run.specs.WrittenFile.{text_of}
 use Rattle.brep_run.specs.Copies.{IsTextFor, SharesEqualTrees}
 

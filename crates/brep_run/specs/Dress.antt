@@ -6,13 +6,13 @@ use Rattle.orientation.specs.declared.kind.Kind.TheVariants.{Co}
 use Rattle.expansion_laws.specs.Trees.{LabelledUse, Tree, Use, origin}
 use Rattle.expansion_laws.specs.Equality.{tree_eq}
 use Rattle.expansion_laws.specs.Sharing.{relabelled_use}
-use Rattle.brep_run.specs.declared.file.Flags.{Flags}
-use Rattle.brep_run.specs.declared.file.Payload.{Payload}
-use Rattle.brep_run.specs.declared.file.Payload.TheVariants.{Nothing}
-use Rattle.brep_run.specs.declared.file.Head.{Head}
-use Rattle.brep_run.specs.declared.file.File.{File}
-use Rattle.brep_run.specs.Spelling.{spell_payload}
-use Rattle.brep_run.specs.PlainRecords.{record_of, tree_of_record, expansion_of}
+use Rattle.brep_file.specs.declared.file.Flags.{Flags}
+use Rattle.brep_file.specs.declared.file.Payload.{Payload}
+use Rattle.brep_file.specs.declared.file.Payload.TheVariants.{Nothing}
+use Rattle.brep_file.specs.declared.file.Head.{Head}
+use Rattle.brep_file.specs.declared.file.File.{File}
+use Rattle.brep_file.specs.Spelling.{spell_payload}
+use Rattle.brep_file.specs.PlainRecords.{record_of, tree_of_record, expansion_of}
 
 -- a part of a record's data that no number of a file stands in: a token
 pub data Part : Type 0 where

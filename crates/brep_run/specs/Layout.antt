@@ -4,11 +4,11 @@ use Rattle.std.specs.List.{flat_map}
 use Rattle.brep_tokens.specs.Tokens.{version_line}
 use Rattle.brep_tokens.specs.Written.{lines_text}
 use Rattle.orientation.specs.Kinds.{name_of}
-use Rattle.brep_run.specs.declared.file.Payload.{Payload}
-use Rattle.brep_run.specs.declared.file.Payload.TheVariants.{Vertex, Nothing}
-use Rattle.brep_run.specs.declared.file.Record.{Record}
-use Rattle.brep_run.specs.declared.file.File.{File}
-use Rattle.brep_run.specs.Spelling.{spell_use, spell_flags, section}
+use Rattle.brep_file.specs.declared.file.Payload.{Payload}
+use Rattle.brep_file.specs.declared.file.Payload.TheVariants.{Vertex, Nothing}
+use Rattle.brep_file.specs.declared.file.Record.{Record}
+use Rattle.brep_file.specs.declared.file.File.{File}
+use Rattle.brep_file.specs.Spelling.{spell_use, spell_flags, section}
 
 abbrev pub Line : Type 0
 Line = List (List ℕ)

@@ -1,15 +1,7 @@
-pub mod Spelling
-pub mod PlainRecords
-pub mod Sound
-pub mod Reads
 pub mod Dress
 pub mod Layout
 pub mod WrittenFile
 pub mod Copies
-pub mod Fields
-pub mod RecordReading
-pub mod Readers
-pub mod ReadingLaws
 pub mod Words
 pub mod Asking
 pub mod Outcomes

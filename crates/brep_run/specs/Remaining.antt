@@ -7,10 +7,11 @@ use Rattle.orientation.specs.declared.turn.Turn.TheVariants.{Forward}
 use Rattle.expansion_laws.specs.Trees.{Tree, Use, a_single, tree_of}
 use Rattle.expansion_laws.specs.Equality.{tree_eq}
 use Rattle.expansion_laws.specs.Expansion.{NumberedUse, IsNumberOf, tree_of_number}
-use Rattle.brep_run.specs.declared.file.FileUse.{FileUse}
-use Rattle.brep_run.specs.declared.file.Record.{Record}
-use Rattle.brep_run.specs.declared.file.File.{File}
-use Rattle.brep_run.specs.PlainRecords.{plain_use, record_of, tree_of_record, expansion_of}
+use Rattle.brep_file.specs.declared.file.FileUse.{FileUse}
+use Rattle.brep_file.specs.declared.file.Record.{Record}
+use Rattle.brep_file.specs.declared.file.File.{File}
+use Rattle.brep_file.specs.Marks.{kept_uses, mark_of}
+use Rattle.brep_file.specs.PlainRecords.{plain_use, record_of, tree_of_record, expansion_of}
 use Rattle.brep_run.specs.Dress.{head_for, head_of, rebuilt}
 use Rattle.brep_run.specs.Completion.{ArePlaced, Completes, new_number}
 use Rattle.brep_run.specs.WrittenFile.{text_of}
@@ -19,18 +20,10 @@ use Rattle.brep_run.specs.WrittenFile.{text_of}
 abbrev pub is_among : List ℕ → ℕ → Bool
 is_among numbers k = list_any (λ j. j == k) numbers
 
--- the mark of a number
-abbrev pub mark_of : List Bool → ℕ → Bool
-mark_of marks k = slice_index_or marks (k - 1) false
-
 -- a mark for each of n numbers, set for these
 pub record AreMarks (n : ℕ) (numbers : List ℕ) (marks : List Bool) : Type 0 where
   pub size : length marks ≡ n
   pub each : (k : ℕ) → IsNumberOf n k → mark_of marks k ≡ is_among numbers k
-
--- the uses of records that stay
-abbrev pub kept_uses : (ℕ → Bool) → List FileUse → List FileUse
-kept_uses removed us = filter (λ u. not (removed u.number)) us
 
 -- the records with the uses that are kept, without their data
 abbrev pub kept_records : File → (ℕ → Bool) → List (List NumberedUse)

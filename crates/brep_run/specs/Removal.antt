@@ -8,8 +8,8 @@ use Rattle.expansion_laws.specs.Rewriting.{StepsTo}
 use Rattle.expansion_laws.specs.Expansion.{IsNumberOf}
 use Rattle.expansion_laws.specs.Written.{flat}
 use Rattle.step_history.specs.History.{History, IsTold, OccursIn, modified, step_history}
-use Rattle.brep_run.specs.declared.file.File.{File}
-use Rattle.brep_run.specs.PlainRecords.{tree_of_record, expansion_of}
+use Rattle.brep_file.specs.declared.file.File.{File}
+use Rattle.brep_file.specs.PlainRecords.{tree_of_record, expansion_of}
 use Rattle.brep_run.specs.Dress.{head_of}
 use Rattle.brep_run.specs.Copies.{CanBeWritten}
 use Rattle.brep_run.specs.WrittenFile.{text_of}

@@ -8,11 +8,11 @@ use Rattle.history_text.specs.Sending.{counted}
 use Rattle.script_text.specs.Lines.{script_line_count}
 use Rattle.expansion_laws.specs.Trees.{Use}
 use Rattle.step_history.specs.History.{modified}
-use Rattle.brep_run.specs.declared.file.File.{File}
+use Rattle.brep_file.specs.declared.file.File.{File}
 use Rattle.brep_run.specs.declared.outcome.LimitKind.{LimitKind}
 use Rattle.brep_run.specs.declared.outcome.LimitKind.TheVariants.{FileBytes, ScriptBytes, ScriptLines}
 use Rattle.brep_run.specs.declared.outcome.ScriptFault.{ScriptFault}
-use Rattle.brep_run.specs.Reads.{Reads, Spells}
+use Rattle.brep_file.specs.Reads.{Reads, Spells}
 use Rattle.brep_run.specs.WrittenFile.{text_of}
 use Rattle.brep_run.specs.Copies.{IsTextFor, SharesEqualTrees}
 use Rattle.brep_run.specs.Copy.{Holds, OutWritten, PrefixWritten, most_bytes}

@@ -3,12 +3,12 @@ use Rattle.std.specs.Prelude.{◌≡◌, ◌⊎◌, ℕ, ◌+◌, IsTrue, List, 
 use Rattle.brep_desk.specs.Shown.{Shown, Tells}
 use Rattle.brep_desk.specs.Strays.{IsHeldIfTold}
 use Rattle.brep_desk.specs.Whole.{IsLonger}
-use Rattle.brep_run.specs.declared.file.File.{File}
+use Rattle.brep_file.specs.declared.file.File.{File}
 use Rattle.brep_run.specs.declared.outcome.LimitKind.{LimitKind}
 use Rattle.brep_run.specs.declared.outcome.LimitKind.TheVariants.{FileBytes}
 use Rattle.brep_run.specs.declared.outcome.ScriptFault.{ScriptFault}
 use Rattle.brep_run.specs.Words.{Asked, copies, rewrites, later, wrong}
-use Rattle.brep_run.specs.Reads.{Reads}
+use Rattle.brep_file.specs.Reads.{Reads}
 use Rattle.brep_run.specs.Copy.{Holds, IsDue, OutWritten, PrefixWritten, CopyExpands, CopyShares, most_bytes}
 use Rattle.brep_run.specs.Rewrite.{IsRewritten, RewriteExpands, RewriteShares, IsRewriteStopped, IsRewriteUnbuilt, IsRefusedLine, IsRewriteLimit, HoldsFile, IsAccepted}
 

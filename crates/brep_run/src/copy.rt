@@ -2,17 +2,16 @@
 ghost use Rattle.std.specs.Prelude.{◌≡◌, ◌≤◌, ◌+◌, ℕ, List, IfOk, IsErrOf, IsTrue, length};
 ghost use Rattle.brep_desk.specs.Strays.{KeepsStrays, IsHeldIfTold};
 ghost use Rattle.brep_desk.specs.Whole.{NothingWritten, IsLonger};
-ghost use Rattle.brep_run.specs.declared.file.File.{File};
+ghost use Rattle.brep_file.specs.declared.file.File.{File};
 ghost use Rattle.brep_run.specs.Outcomes.{OnDone, OnUsage, OnNotBuilt, IfLimit, IfScript, IfReadDesk, IfWriteDesk, UnlessWriting};
-ghost use Rattle.brep_run.specs.Reads.{Reads};
+ghost use Rattle.brep_file.specs.Reads.{Reads};
 ghost use Rattle.brep_run.specs.Copy.{Counts, OutWritten, PrefixWritten, IsCopyOf, IsDue, Holds, most_bytes};
 
-use crate::laws::reading_is_exact;
 use crate::outcome::{LimitKind, Outcome};
-use crate::reader::read_file;
-use crate::stop::Stop;
 use crate::writer::copy_text;
 use brep_desk::{Desk, ReadAll, read_all, write_all};
+use brep_file::laws::reading_is_exact;
+use brep_file::{Stop, read_file};
 use std::alloc::Global;
 
 /// The greatest number of bytes of a file that is read.

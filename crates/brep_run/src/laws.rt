@@ -1,14 +1,9 @@
 //! Laws of files and of the texts that spell them, each the contract of a function that does nothing.
-ghost use Rattle.brep_run.specs.ReadingLaws.{ReadingIsExact};
 ghost use Rattle.brep_run.specs.Copies.{TextsStandForRoots};
 
+use brep_file::laws::reading_is_exact;
 use brep_tokens::laws::written_is_read;
 use expansion_laws::laws::{fewest, records_are_trees, roots_are_written};
-
-/// What is read is spelled so, what is spelled so is read, and a text spells one file at most.
-pub fn reading_is_exact()
-    ensures { ReadingIsExact }
-{}
 
 /// The text that is written for a root spells one file, which stands for that root.
 pub fn texts_stand_for_roots()

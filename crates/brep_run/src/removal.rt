@@ -1,8 +1,9 @@
 //! Removes shapes from a file: the text of what remains, and what the history of the removal says.
 ghost use Rattle.brep_run.specs.Completion.{ArePlaced, Completes, NumbersTell};
-ghost use Rattle.brep_run.specs.Remaining.{AreMarks, RootGoes, RootStays, mark_of};
+ghost use Rattle.brep_run.specs.Remaining.{AreMarks, RootGoes, RootStays};
+ghost use Rattle.brep_file.specs.Marks.{mark_of};
 ghost use Rattle.brep_run.specs.Removal.{RemovalDone};
-ghost use Rattle.brep_run.specs.Sound.{IsSound};
+ghost use Rattle.brep_file.specs.Sound.{IsSound};
 ghost use Rattle.expansion_laws.specs.Expansion.{IsNumberOf};
 ghost use Rattle.expansion_laws.specs.Trees.{Use};
 ghost use Rattle.std.specs.Prelude.{◌≡◌, All, IfOk, [], false, length, true};
@@ -11,15 +12,14 @@ mod marks;
 mod remaining;
 mod told;
 
-use crate::file::File;
 use crate::laws::texts_stand_for_roots;
 use crate::writer::{Order, made_text, order_of, text_in_order};
+use brep_file::{File, is_marked};
 use brep_tokens::Numbers;
 use expansion_laws::laws::{
     equal_trees_tell, records_are_trees, results_are_determined, roots_are_written,
 };
 use history_text::NumberPairs;
-pub(crate) use marks::is_marked;
 use marks::marked;
 use remaining::without_marked;
 use std::alloc::{AllocError, Global};

@@ -9,11 +9,12 @@ ghost use Rattle.brep_run.specs.Copy.{Counts};
 ghost use Rattle.brep_run.specs.Runs.{IsFinished, Expands, Shares, IsStopped, IsUnbuilt, IsLineRefused, HasInput, HoldsInput, IsTooLong, IsReady, IsMissing};
 
 use crate::copy::copy;
-use crate::laws::{reading_is_exact, texts_stand_for_roots};
+use crate::laws::texts_stand_for_roots;
 use crate::outcome::Outcome;
 use crate::rewrite::rewrite;
 use crate::words::{Request, asked};
 use brep_desk::{CommandWords, Desk, Steps};
+use brep_file::laws::reading_is_exact;
 use expansion_laws::laws::records_are_trees;
 use std::alloc::Global;
 use std::sync::ledger::Ledger;

@@ -1,9 +1,9 @@
 //! The written layout of a file: its records in the order of first completion, each in its lines.
-ghost use Rattle.brep_run.specs.declared.file.File.{File};
+ghost use Rattle.brep_file.specs.declared.file.File.{File};
 ghost use Rattle.brep_run.specs.Completion.{ArePlaced, Completes, NumbersTell, lines_of_number};
-ghost use Rattle.brep_run.specs.PlainRecords.{expansion_of};
+ghost use Rattle.brep_file.specs.PlainRecords.{expansion_of};
 ghost use Rattle.brep_run.specs.Remaining.{made_root};
-ghost use Rattle.brep_run.specs.Sound.{IsSound};
+ghost use Rattle.brep_file.specs.Sound.{IsSound};
 ghost use Rattle.brep_run.specs.WrittenFile.{text_of};
 ghost use Rattle.std.specs.List.{flat_map};
 ghost use Rattle.std.specs.Prelude.{◌≡◌, ◌++◌, IfOk, OnOk, [], length};
@@ -11,7 +11,7 @@ ghost use Rattle.std.specs.Prelude.{◌≡◌, ◌++◌, IfOk, OnOk, [], length}
 mod lines;
 mod order;
 
-use crate::file::File;
+use brep_file::File;
 use expansion_laws::laws::{equal_trees_tell, records_are_trees};
 use lines::{push_number, push_record, push_use};
 pub(crate) use order::{Order, order_of, record_at};

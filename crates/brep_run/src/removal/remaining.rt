@@ -1,10 +1,10 @@
 //! The records that remain, without the uses of those that are removed.
 ghost use Rattle.brep_run.specs.Completion.{NumbersTell};
-ghost use Rattle.brep_run.specs.Remaining.{AreChanges, IsFileAfter, is_touched, mark_of, touched};
+ghost use Rattle.brep_run.specs.Remaining.{AreChanges, IsFileAfter, is_touched, touched};
+ghost use Rattle.brep_file.specs.Marks.{mark_of};
 ghost use Rattle.std.specs.Prelude.{◌≡◌, IfOk, length};
 
-use super::marks::is_marked;
-use crate::file::{File, Record, Records};
+use brep_file::{File, Record, Records, is_marked};
 use expansion_laws::laws::records_are_trees;
 use std::alloc::{AllocError, Global};
 

@@ -4,9 +4,8 @@ ghost use Rattle.brep_run.specs.Remaining.{is_gone, is_modified, is_told, pair_o
 ghost use Rattle.expansion_laws.specs.Expansion.{IsNumberOf};
 ghost use Rattle.std.specs.Prelude.{◌≡◌, IfOk, length, map, reverse};
 
-use super::marks::is_marked;
-use crate::file::File;
 use crate::writer::{Order, record_at};
+use brep_file::{File, is_marked};
 use brep_tokens::Numbers;
 use history_text::NumberPairs;
 use orientation::Kind;

@@ -1,9 +1,9 @@
 //! The lines of a record, appended to a text.
-ghost use Rattle.brep_run.specs.declared.file.FileUse.{FileUse};
+ghost use Rattle.brep_file.specs.declared.file.FileUse.{FileUse};
 ghost use Rattle.brep_run.specs.Completion.{ArePlaced, new_number, renumbered, renumbered_use};
 ghost use Rattle.brep_run.specs.Layout.{payload_lines, record_lines};
-ghost use Rattle.brep_run.specs.Sound.{IsShaped};
-ghost use Rattle.brep_run.specs.Spelling.{flag_code, spell_flags, spell_use};
+ghost use Rattle.brep_file.specs.Sound.{IsShaped};
+ghost use Rattle.brep_file.specs.Spelling.{flag_code, spell_flags, spell_use};
 ghost use Rattle.brep_tokens.specs.Written.{lines_text};
 ghost use Rattle.expansion_laws.specs.Expansion.{IsNumberOf};
 ghost use Rattle.std.specs.Fmt.{decimal};
@@ -11,7 +11,7 @@ ghost use Rattle.std.specs.List.{flat_map, join_with_byte};
 ghost use Rattle.std.specs.Prelude.{◌≡◌, ◌∷◌, ◌++◌, ◌<◌, All, OnOk, [], length, slice_index_or};
 
 use super::order::Order;
-use crate::file::{FileUse, Flags, Payload, Record};
+use brep_file::{FileUse, Flags, Payload, Record};
 use brep_tokens::Decimals;
 use itoa::Buffer;
 use orientation::{Turn, kind_name, sign};

@@ -1,11 +1,11 @@
 //! The order in which records are written.
 ghost use Rattle.brep_run.specs.Completion.{ArePlaced, Completes, FirstStay, NumbersTell, new_number};
-ghost use Rattle.brep_run.specs.PlainRecords.{record_of};
+ghost use Rattle.brep_file.specs.PlainRecords.{record_of};
 ghost use Rattle.brep_run.specs.Remaining.{has_place};
 ghost use Rattle.expansion_laws.specs.Expansion.{IsNumberOf};
 ghost use Rattle.std.specs.Prelude.{◌≡◌, ◌∷◌, ◌++◌, ◌+◌, ◌-◌, IfOk, OnOk, Some, [], length, slice_index, slice_set};
 
-use crate::file::{File, Record};
+use brep_file::{File, Record};
 use std::alloc::{AllocError, Global};
 
 /// The numbers of records in the order of first completion, and the place of each record among them, counted from 1, or 0

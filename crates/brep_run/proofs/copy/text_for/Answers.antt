@@ -1,4 +1,4 @@
-use Rattle.brep_run.proofs.ReadFiles.{reads-of, none-of}
+use Rattle.brep_file.proofs.ReadFiles.{reads-of, none-of}
 use Rattle.brep_run.proofs.copy.text_for.Goals as goal
 
 pub returns-in-Err-clause-unbuilt : goal.returns-in-Err-clause-unbuilt

@@ -1,8 +1,9 @@
 use Rattle.std.proofs.Common.{length, List, Bool, subst, ap, sym, ◌∙◌}
 use Rattle.std.specs.Prelude.{map}
-use Rattle.brep_run.specs.PlainRecords.{plain_records, plain_use}
+use Rattle.brep_file.specs.PlainRecords.{plain_records, plain_use}
 use Rattle.brep_run.specs.Completion.{ArePlaced}
-use Rattle.brep_run.specs.Remaining.{kept_records, mark_of, pair_of, passing, is_modified}
+use Rattle.brep_run.specs.Remaining.{kept_records, pair_of, passing, is_modified}
+use Rattle.brep_file.specs.Marks.{mark_of}
 use Rattle.brep_run.proofs.CopyLemmas.{file-sound}
 use Rattle.brep_run.proofs.RemovalTrees.{kept-file}
 use Rattle.brep_run.proofs.RemovalFile.{after-tells, gone-same, modified-same}

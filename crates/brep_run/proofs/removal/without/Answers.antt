@@ -1,9 +1,10 @@
 use Rattle.std.proofs.Common.{length, List, ℕ, Bool, subst, ap, sym, ◌∙◌, ◌≡◌, true, false}
 use Rattle.expansion_laws.specs.Trees.{Use}
 use Rattle.brep_run.specs.declared.removal.Removal.{Removal}
-use Rattle.brep_run.specs.PlainRecords.{plain_records, plain_use}
+use Rattle.brep_file.specs.PlainRecords.{plain_records, plain_use}
 use Rattle.brep_run.specs.Completion.{NumbersTell}
-use Rattle.brep_run.specs.Remaining.{AreMarks, kept_records, mark_of, RootGoes, RootStays}
+use Rattle.brep_run.specs.Remaining.{AreMarks, kept_records, RootGoes, RootStays}
+use Rattle.brep_file.specs.Marks.{mark_of}
 use Rattle.brep_run.specs.Removal.{removal_step, RemovalDone}
 use Rattle.brep_run.proofs.Answered.{IfOk-weaker}
 use Rattle.brep_run.proofs.CopyLemmas.{file-sound}

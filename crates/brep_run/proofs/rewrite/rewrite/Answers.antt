@@ -2,12 +2,12 @@ use Rattle.std.proofs.Common.{◌∙◌, refl, sym, ap, subst, inl, inr, length,
 use Rattle.script_text.specs.Lines.{script_line_count}
 use Rattle.std.specs.Prelude.{All, Err}
 use Rattle.expansion_laws.specs.Expansion.{IsNumberOf}
-use Rattle.brep_run.specs.declared.file.File.{File}
+use Rattle.brep_file.specs.declared.file.File.{File}
 use Rattle.brep_run.specs.Script.{StopGiven, script_given}
 use Rattle.brep_run.specs.Rewrite.{AreDue, AreTextsOf}
 use Rattle.history_text.specs.HistoryText.{text_of}
 use Rattle.brep_run.proofs.Reading.{held-before, quiet-both, closed-both, done-after, stopped-after}
-use Rattle.brep_run.proofs.ReadFiles.{reads-of, none-of}
+use Rattle.brep_file.proofs.ReadFiles.{reads-of, none-of}
 use Rattle.brep_run.proofs.ScriptLemmas.{stop-unbuilt, stop-missing, missing-told, script-in_range}
 use Rattle.brep_run.proofs.rewrite.rewrite.Goals as goal
 

@@ -1,6 +1,6 @@
 use Rattle.std.proofs.Common.{sym, ap, subst, ◌∙◌}
 use Rattle.brep_run.specs.Words.{asked_of}
-use Rattle.brep_run.specs.PlainRecords.{plain_records, plain_use}
+use Rattle.brep_file.specs.PlainRecords.{plain_records, plain_use}
 use Rattle.brep_run.proofs.CopyLemmas.{file-sound}
 use Rattle.brep_run.specs.Outcomes.{OnDone, IsDoneOrNoMemory, IsReadDeskOrNoMemory}
 use Rattle.brep_run.specs.Words.{rewrites}

@@ -1,4 +1,4 @@
-use Rattle.brep_run.specs.PlainRecords.{plain_records, plain_use}
+use Rattle.brep_file.specs.PlainRecords.{plain_records, plain_use}
 use Rattle.brep_run.proofs.CopyLemmas.{file-sound}
 use Rattle.brep_run.proofs.writer.copy_text.Goals as goal
 

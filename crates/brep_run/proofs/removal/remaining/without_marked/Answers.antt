@@ -1,8 +1,9 @@
 use Rattle.std.proofs.Common.{rules, ◌≡◌, ◌<◌, ◌+◌, ◌-◌, ◌∙◌, sym, ap, subst, arith, length, slice_set}
 use Rattle.std.specs.Prelude.{List, Bool, Some, slice_get}
 use Rattle.std.proofs.lemmas.Option.{slice_get-get_or}
-use Rattle.brep_run.specs.PlainRecords.{plain_use}
-use Rattle.brep_run.specs.Remaining.{kept_records, mark_of, is_touched, touched}
+use Rattle.brep_file.specs.PlainRecords.{plain_use}
+use Rattle.brep_run.specs.Remaining.{kept_records, is_touched, touched}
+use Rattle.brep_file.specs.Marks.{mark_of}
 use Rattle.brep_run.proofs.RemovalTrees.{kept-file}
 use Rattle.brep_run.proofs.RemovalLoop.{AreDone, one-done}
 use Rattle.brep_run.proofs.removal.remaining.without_marked.Goals as goal

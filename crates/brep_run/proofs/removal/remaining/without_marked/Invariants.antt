@@ -1,4 +1,4 @@
-use Rattle.brep_run.specs.Remaining.{mark_of}
+use Rattle.brep_file.specs.Marks.{mark_of}
 use Rattle.brep_run.proofs.RemovalLoop.{AreDone}
 use Rattle.brep_run.proofs.removal.remaining.without_marked.Given as goal
 

@@ -1,0 +1,10 @@
+pub mod Loops
+pub mod FieldLaws
+pub mod HeadLaws
+pub mod UseLaws
+pub mod RecordLaws
+pub mod DepthLaws
+pub mod SoundLaws
+pub mod SoundAgain
+pub mod FileLaws
+pub mod ReadFiles

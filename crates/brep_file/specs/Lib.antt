@@ -1,0 +1,9 @@
+pub mod Spelling
+pub mod PlainRecords
+pub mod Sound
+pub mod Reads
+pub mod Marks
+pub mod Fields
+pub mod RecordReading
+pub mod Readers
+pub mod ReadingLaws

@@ -1,6 +1,0 @@
--- Reading is exact.
-use Rattle.brep_run.proofs.SoundAgain.{reading_is_exact as law}
-use Rattle.brep_run.proofs.laws.reading_is_exact.Goals as goal
-
-pub returns : goal.returns
-returns c = law
