@@ -1,9 +1,6 @@
 //! Fields that were written by hand, taken token by token and spelled again.
-ghost use Rattle.std.specs.Prelude.{◌≤◌, IfSome, length};
-
 use crate::{
-    DecimalsDue, DecimalsSpell, HeaderSpell, KnotsDue, KnotsSpell, NumbersDue, NumbersSpell,
-    flag_due, laws, word_due,
+    DecimalsDue, HeaderSpell, KnotsDue, NumbersDue, NumbersSpell, flag_due, laws, word_due,
 };
 use brep_tokens::{ReadFault, ReadStop, Token, TokenText};
 use std::alloc::Global;
@@ -36,8 +33,8 @@ fn stop_text(alloc: Global, stop: ReadStop) -> Result<String, Fail> {
     }
 }
 
-/// The texts with a space after each.
-fn joined<I: Iterator<Item = TokenText>>(alloc: Global, texts: I) -> Result<String, Fail> {
+/// The texts of numbers with a space after each.
+fn joined(alloc: Global, texts: NumbersSpell<'_>) -> Result<String, Fail> {
     let mut all = String::new(alloc);
     for text in texts {
         all.push_str(str::from_utf8(text.bytes()).unwrap_or("?"))?;
@@ -146,13 +143,12 @@ fn fields_of_one_token(rt: HostRuntime) -> Result<(), Fail> {
 #[test]
 fn spellings(rt: HostRuntime) -> Result<(), Fail> {
     let alloc = rt.alloc();
-    let header = HeaderSpell::new(
-        [7, 0, 1, 999_999_999_999_999_999, 0, 0, 0, 0, 0, 0, 0, 0],
-        4,
-    );
-    assert_eq!(rt;
-        joined(alloc, header)?.as_str(),
-        "7 0 1 999999999999999999 "
-    );
+    let numbers = [7, 0, 1, 999_999_999_999_999_999, 2, 2, 2, 2, 2, 2, 2, 2];
+    let mut all = String::new(alloc);
+    for text in HeaderSpell::new(numbers, 4) {
+        all.push_str(str::from_utf8(text.bytes()).unwrap_or("?"))?;
+        all.push_str(" ")?;
+    }
+    assert_eq!(rt; all.as_str(), "7 0 1 999999999999999999 ");
     Ok(())
 }
