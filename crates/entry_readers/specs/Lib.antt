@@ -4,3 +4,4 @@ pub mod Left
 pub mod Begins
 pub mod Spelled
 pub mod Entries
+pub mod FieldForms
