@@ -114,44 +114,85 @@ fn rebuilds_what_stands_above(rt: HostRuntime) -> Result<(), Fail> {
     Ok(())
 }
 
-// Each row: a script, and its answer. Nothing is written.
+// Each row: a script, and the fault that is told. Nothing is written.
 #[test]
-fn the_first_line_that_is_no_removal_decides(rt: HostRuntime) -> Result<(), Fail> {
+fn the_first_faulty_line_is_told(rt: HostRuntime) -> Result<(), Fail> {
     let alloc = rt.alloc();
-    let missing = |line: u64, first: u64| {
+    let told = |line: u64, code: ScriptCode, first: u64, second: u64| {
         Outcome::Script(ScriptFault {
             line,
-            code: ScriptCode::NoSuchShape,
+            code,
             first,
-            second: 2,
+            second,
         })
     };
+    let syntax = |line: u64| told(line, ScriptCode::Syntax, 0, 0);
+    let no_shape = |line: u64, first: u64| told(line, ScriptCode::NoSuchShape, first, 2);
+    let no_location = |line: u64, first: u64| told(line, ScriptCode::NoSuchLocation, first, 0);
     let rows = [
-        ("remove 3", missing(1, 3)),
-        ("remove 0", missing(1, 0)),
+        ("replace 2 with 1", syntax(1)),
+        ("remove 2\nremove", syntax(2)),
+        ("remove 2\r", syntax(1)),
+        ("merge 2 2", syntax(1)),
+        ("remove 3", no_shape(1, 3)),
+        ("remove 0", no_shape(1, 0)),
         (
             "\n# two\nremove 2\nremove 999999999999999999\nremove -2\n",
-            missing(4, 999_999_999_999_999_999),
+            no_shape(4, 999_999_999_999_999_999),
         ),
-        ("remove 3\nundo\n", missing(1, 3)),
-        ("undo\nremove 3\n", Outcome::NotBuilt),
-        ("remove", Outcome::NotBuilt),
-        ("remove 2 2", Outcome::NotBuilt),
-        ("remove -2", Outcome::NotBuilt),
-        ("remove 02", Outcome::NotBuilt),
-        ("remove 1000000000000000000", Outcome::NotBuilt),
-        ("remove 2\r", Outcome::NotBuilt),
-        ("replace 2 by 1", Outcome::NotBuilt),
-        ("Remove 2", Outcome::NotBuilt),
+        ("replace 4 at 5 by 3", no_shape(1, 4)),
+        ("remove 2 at 1", no_location(1, 1)),
+        ("replace 2 by 1 loc 7", no_location(1, 7)),
+        // the first of two, and one behind commands that aren't carried out
+        ("remove 3\nundo now\n", no_shape(1, 3)),
+        ("undo now\nremove 3\n", syntax(1)),
+        ("remove +2\nremove 3\n", no_shape(2, 3)),
+        ("undo\nremove 2\nremove 2 at 1\n", no_location(3, 1)),
     ];
     for (script, want) in rows {
         assert_eq!(rt; answer_of(alloc, TWICE, script)?, (want, false), "{script}");
     }
-    assert_eq!(rt; missing(1, 3).status(), 4);
-    assert_eq!(rt;
-        missing(1, 3).message(alloc)?.text(),
-        "script line 1 no-such-shape 3 2"
-    );
+    Ok(())
+}
+
+#[test]
+fn faults_of_lines_are_told(rt: HostRuntime) -> Result<(), Fail> {
+    let alloc = rt.alloc();
+    for (script, want) in [
+        ("replace 2 with 1", "script line 1 syntax 0 0"),
+        ("remove 3", "script line 1 no-such-shape 3 2"),
+        ("remove 2 at 1", "script line 1 no-such-location 1 0"),
+    ] {
+        let outcome = answer_of(alloc, TWICE, script)?.0;
+        assert_eq!(rt; outcome.message(alloc)?.text(), want, "{script}");
+        assert_eq!(rt; outcome.status(), 4, "{script}");
+    }
+    Ok(())
+}
+
+#[test]
+fn other_commands_are_not_built(rt: HostRuntime) -> Result<(), Fail> {
+    let alloc = rt.alloc();
+    for script in [
+        "remove +2",
+        "remove -2",
+        "remove i2",
+        "remove e2",
+        "remove 2 at 0",
+        "replace 2 by 1",
+        "replace -2 at 0 by 1 loc 0",
+        "merge 1 2",
+        "sew 1 -2",
+        "apply",
+        "undo",
+        "remove 2\nundo\nremove 2",
+    ] {
+        assert_eq!(rt;
+            answer_of(alloc, TWICE, script)?,
+            (Outcome::NotBuilt, false),
+            "{script}"
+        );
+    }
     // The form of the file comes before the script.
     assert_eq!(rt;
         answer_of(alloc, "no file", "remove 3")?,

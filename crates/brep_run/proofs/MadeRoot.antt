@@ -1,12 +1,12 @@
 -- The compound that is made as the root: its text, and that it can be written.
-use Rattle.std.proofs.Common.{◌≡◌, ◌<◌, ◌≤◌, ◌-◌, refl, sym, ◌∙◌, ap, subst, arith, inl, inr}
-use Rattle.std.specs.Prelude.{ℕ, ◌^◌, if◌then◌else◌, None, List, [], ◌∷◌, ◌++◌, length, Contains, codes}
+use Rattle.std.proofs.Common.{◌≡◌, ◌-◌, refl, sym, ◌∙◌, ap, subst, arith, inl, inr}
+use Rattle.std.specs.Prelude.{if◌then◌else◌, None, [], ◌∷◌, ◌++◌, length, Contains, codes}
 use Rattle.std.specs.Option.{option_map_or}
 use Rattle.std.specs.Fmt.{digits}
 use Rattle.std.proofs.lemmas.Option.{slice_get_past}
 use Rattle.brep_tokens.specs.Tokens.{version_line}
 use Rattle.orientation.specs.declared.turn.Turn.TheVariants.{Forward}
-use Rattle.expansion_laws.specs.Trees.{Tree, Use, uses, tree_of, origin}
+use Rattle.expansion_laws.specs.Trees.{Tree, uses, tree_of, origin}
 use Rattle.expansion_laws.specs.Equality.{tree_eq}
 use Rattle.expansion_laws.proofs.Members.{Contains-none, Contains-cases}
 use Rattle.brep_file.specs.declared.file.File.{File}

@@ -1,13 +1,13 @@
 -- The file that remains after a removal: it is sound, and it is written as its root over the first file.
-use Rattle.std.proofs.Common.{◌≡◌, ◌<◌, ◌≤◌, ◌+◌, ◌-◌, refl, sym, ◌∙◌, ap, subst, arith, inl, inr}
-use Rattle.std.specs.Prelude.{ℕ, zero, suc, max, ◌^◌, Bool, true, false, not, ◌&&◌, if◌then◌else◌, Option, Some, List, [], ◌∷◌, All, map, filter, length, Contains, slice_get}
+use Rattle.std.proofs.Common.{◌≡◌, ◌<◌, ◌≤◌, ◌+◌, ◌-◌, sym, ◌∙◌, ap, subst, arith, inl, inr}
+use Rattle.std.specs.Prelude.{ℕ, zero, suc, ◌^◌, Bool, not, ◌&&◌, if◌then◌else◌, Option, Some, List, [], ◌∷◌, map, filter, length, Contains, slice_get}
 use Rattle.std.specs.Option.{option_map, option_map_or}
 use Rattle.std.proofs.lemmas.List.{length-map}
 use Rattle.std.proofs.lemmas.List.Elements.{All-filter, All-weaker}
 use Rattle.std.proofs.lemmas.Option.{same_Some, slice_get-map, slice_get_within}
 use Rattle.orientation.specs.declared.kind.Kind.{Kind}
 use Rattle.orientation.specs.Kinds.{IsBelow}
-use Rattle.expansion_laws.specs.Trees.{Tree, Use, uses, uses_of, origin, tree_of}
+use Rattle.expansion_laws.specs.Trees.{Tree, Use, uses, uses_of, origin}
 use Rattle.expansion_laws.specs.Equality.{tree_eq}
 use Rattle.expansion_laws.specs.Measures.{depth, uses_depth, subtrees}
 use Rattle.expansion_laws.specs.Expansion.{NumberedUse, IsNumberOf, expansion, tree_of_number}
@@ -28,12 +28,12 @@ use Rattle.brep_run.specs.Layout.{layout}
 use Rattle.brep_run.specs.WrittenFile.{written_use, written_record, text_of}
 use Rattle.brep_run.specs.Remaining.{kept_records, tree_after, record_after, IsFileAfter, is_told, is_gone, is_modified, has_place, passing}
 use Rattle.brep_file.specs.Marks.{kept_uses, mark_of}
-use Rattle.brep_run.proofs.CopyLemmas.{record-at, kind-for, file-sound, stands-below}
+use Rattle.brep_run.proofs.CopyLemmas.{record-at, kind-for, stands-below}
 use Rattle.brep_run.proofs.KeptLists.{by_places, filter-yes, filter-no, map-same}
 use Rattle.brep_run.proofs.Passing.{passing-same}
 use Rattle.brep_run.proofs.WrittenSound.{perhaps, shaped-perhaps}
 use Rattle.brep_run.proofs.WrittenTexts.{head_is}
-use Rattle.brep_run.proofs.RemovalTrees.{use_after, count-kept, origin-after, after-is, before-is, names-above}
+use Rattle.brep_run.proofs.RemovalTrees.{use_after, origin-after, after-is, before-is, names-above}
 
 -- uses of which some are left out and the others are no deeper
 below-kept : (p : FileUse → Bool) (a b : FileUse → Use) (us : List FileUse) → ((u : FileUse) → Contains us u → depth (a u).tree ≤ depth (b u).tree) →

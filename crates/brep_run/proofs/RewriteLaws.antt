@@ -1,10 +1,9 @@
 -- What follows where a rewriting is done, and which answer is left where its inputs are ready or missing.
-use Rattle.std.proofs.Common.{◌≡◌, ◌<◌, ◌≤◌, ◌+◌, ◌^◌, ◌-◌, min, ℕ, List, Some, None, Bool, true, false, IsTrue, length, inl, inr, refl, sym, ap, subst, ◌∙◌, arith}
+use Rattle.std.proofs.Common.{◌≡◌, ◌<◌, ◌≤◌, ℕ, List, Some, None, IsTrue, length, inl, inr, sym, ap, subst, ◌∙◌, arith}
 use Rattle.std.specs.Prelude.{◌⊎◌, ◌≢◌}
 use Rattle.brep_desk.specs.Shown.{Shown, Tells}
 use Rattle.brep_desk.specs.Causes.{Rose}
 use Rattle.expansion_laws.specs.Walk.{RecordsAreTrees}
-use Rattle.expansion_laws.specs.Trees.{Use}
 use Rattle.script_text.specs.Lines.{script_line_count}
 use Rattle.brep_file.specs.declared.file.File.{File}
 use Rattle.brep_run.specs.declared.outcome.Outcome.{Outcome}
@@ -18,9 +17,9 @@ use Rattle.brep_file.specs.Reads.{Reads, Spells}
 use Rattle.brep_file.specs.ReadingLaws.{ReadingIsExact}
 use Rattle.brep_run.specs.declared.outcome.ScriptFault.{ScriptFault}
 use Rattle.brep_run.specs.Copies.{IsTextFor}
-use Rattle.brep_run.specs.Copy.{Holds, Counts, OutWritten, most_bytes}
-use Rattle.brep_run.specs.Script.{ScriptGiven, removals, missing, unbuilt, script_given}
-use Rattle.brep_run.specs.Rewrite.{HoldsFile, HoldsScript, IsAccepted, AreDue, IsRewritten, IsRewriteStopped, RewriteExpands, RewriteShares, IsRewriteUnbuilt, IsRefusedLine, IsRewriteLimit, most_script_bytes, most_script_lines}
+use Rattle.brep_run.specs.Copy.{Holds, Counts, most_bytes}
+use Rattle.brep_run.specs.Script.{removals, faulty, unbuilt}
+use Rattle.brep_run.specs.Rewrite.{HoldsFile, IsAccepted, given_for, AreDue, IsRewritten, IsRewriteStopped, RewriteExpands, RewriteShares, IsRewriteUnbuilt, IsRefusedLine, IsRewriteLimit, most_script_bytes, most_script_lines}
 use Rattle.brep_run.proofs.CopyLaws.{shared_in}
 
 some-same : {A : Type 0} (x y : A) → Some x ≡ Some y → x ≡ y
@@ -87,11 +86,11 @@ rose-whole entry before after exit c =
     omega (arith, a, b, r)
 
 module _ (exact : ReadingIsExact) (t : Tells) (old : Shown) (source script : List ℕ) (f : File) (held : IsTrue t.held) (file : HoldsFile old source f) where
-  given-one : (g : File) (ls ms : List ℕ) → HoldsFile old source g → old.held script ≡ Some ls → old.held script ≡ Some ms → script_given (length f.records) ls ≡ script_given (length g.records) ms
+  given-one : (g : File) (ls ms : List ℕ) → HoldsFile old source g → old.held script ≡ Some ls → old.held script ≡ Some ms → given_for f ls ≡ given_for g ms
   given-one g ls ms other a b =
       let same_file : f ≡ g = one-file exact old source f g file other in
       let same_lines : ls ≡ ms = some-same _ _ (sym a ∙ b) in
-      ap (λ (h : File). script_given (length h.records) ls) same_file ∙ ap (script_given (length g.records)) same_lines
+      ap (λ (h : File). given_for h ls) same_file ∙ ap (given_for g) same_lines
 
   -- where the script is accepted too, a run has no other answer
   module _ (numbers : List ℕ) (accepted : IsAccepted old source script f numbers) where
@@ -104,7 +103,7 @@ module _ (exact : ReadingIsExact) (t : Tells) (old : Shown) (source script : Lis
     not-refused : (fault : ScriptFault) → IsRefusedLine t old source script fault → ⊥
     not-refused fault h =
         let other = h held in
-        let e : removals numbers ≡ missing fault.line fault.first = sym accepted.given ∙ given-one other.0 accepted.lines other.1 other.2 accepted.held.held other.3.held ∙ other.4 in
+        let e : removals numbers ≡ faulty fault.line other.4.0 = sym accepted.given ∙ given-one other.0 accepted.lines other.1 other.2 accepted.held.held other.3.held ∙ other.4.1 in
         cc
 
     not-limited : (which : LimitKind) (count : ℕ) → IsRewriteLimit t old source script which count → ⊥

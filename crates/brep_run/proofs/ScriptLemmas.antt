@@ -1,100 +1,135 @@
--- What a script gives, line by line.
-use Rattle.std.proofs.Common.{◌≡◌, ◌∙◌, ℕ, List, [], ◌∷◌, ◌++◌, refl, sym, ap, subst}
-use Rattle.std.specs.Prelude.{◌+◌, Bool, true, false, if◌then◌else◌, ◌&&◌, nat_le, All}
+-- What a script says, line by line.
+use Rattle.std.proofs.Common.{◌≡◌, ◌∙◌, ℕ, ◌+◌, List, [], ◌∷◌, ◌++◌, Option, Some, None, Result, Ok, Err, refl, sym, ap, subst}
+use Rattle.std.specs.Prelude.{All}
+use Rattle.std.specs.List.{AllByRecursion}
+use Rattle.std.proofs.lemmas.List.{append-nil}
 use Rattle.std.proofs.lemmas.List.Elements.{All-nil, All-cons}
-use Rattle.std.proofs.lemmas.Bool.{leb-true}
-use Rattle.script_text.specs.Lines.{script_lines}
-use Rattle.script_text.specs.Words.{words_of}
 use Rattle.expansion_laws.specs.Expansion.{IsNumberOf}
+use Rattle.orientation.specs.declared.turn.Turn.{Turn}
+use Rattle.script_text.specs.Laws.{CommandsAreWritten}
+use Rattle.script_text.specs.Lines.{script_lines}
+use Rattle.script_text.specs.Meaning.{command_of_line}
+use Rattle.script_text.specs.Writing.{HasLine}
+use Rattle.script_text.specs.declared.command.Command.{Command}
+use Rattle.script_text.specs.declared.command.Command.TheVariants.{Replace, Remove, Merge, Sew, Apply, Undo}
+use Rattle.script_text.specs.declared.command.LineFault.{LineFault}
 use Rattle.brep_run.specs.declared.script.ScriptStop.{ScriptStop}
 use Rattle.brep_run.specs.declared.script.ScriptStop.TheVariants as stops
-use Rattle.brep_run.specs.Script.{StopGiven, ScriptLine, nothing, removes, another, ScriptGiven, removals, missing, unbuilt, line_of, with_line, after_removals, lines_given, script_given}
+use Rattle.brep_run.specs.declared.outcome.ScriptFault.{ScriptFault}
+use Rattle.brep_run.specs.Script.{ScriptRead, commands, faulty_line, after_commands, with_line, lines_read, script_read, everywhere, removal_of, before_numbers, removals_of, ScriptGiven, faulty, unbuilt, given_by, IsRefusedAt, StopGiven}
 
-pub after-push : (first : List ℕ) (k : ℕ) (given : ScriptGiven) → after_removals first (after_removals (k ∷ []) given) ≡ after_removals (first ++ k ∷ []) given
-after-push first k (removals numbers) = ap removals (append-push first k numbers)
-  where
-    append-push : (xs : List ℕ) (k : ℕ) (ys : List ℕ) → xs ++ ((k ∷ []) ++ ys) ≡ (xs ++ k ∷ []) ++ ys
-    append-push [] k ys = refl
-    append-push (x ∷ xs) k ys = ap (λ l. x ∷ l) (append-push xs k ys)
-after-push first k (missing line number) = refl
-after-push first k unbuilt = refl
+append-push : {A : Type 0} (xs : List A) (x : A) (ys : List A) → xs ++ ((x ∷ []) ++ ys) ≡ (xs ++ x ∷ []) ++ ys
+append-push [] x ys = refl
+append-push (z ∷ xs) x ys = ap (λ l. z ∷ l) (append-push xs x ys)
 
-pub after-none : (given : ScriptGiven) → after_removals [] given ≡ given
-after-none (removals numbers) = refl
-after-none (missing line number) = refl
-after-none unbuilt = refl
+pub after-push : (first : List Command) (c : Command) (said : ScriptRead) → after_commands first (after_commands (c ∷ []) said) ≡ after_commands (first ++ c ∷ []) said
+after-push first c (commands cs) = ap commands (append-push first c cs)
+after-push first c (faulty_line line f) = refl
 
-pub before-none : (first : List ℕ) → after_removals first (removals []) ≡ removals first
-before-none first = ap removals (append-none first)
-  where
-    append-none : (xs : List ℕ) → xs ++ [] ≡ xs
-    append-none [] = refl
-    append-none (x ∷ xs) = ap (λ l. x ∷ l) (append-none xs)
+pub after-none : (said : ScriptRead) → after_commands [] said ≡ said
+after-none (commands cs) = refl
+after-none (faulty_line line f) = refl
 
-pub given-start : (shapes : ℕ) (script numbers : List ℕ) (ls : List (List ℕ)) → numbers ≡ [] → ls ≡ script_lines script →
-    after_removals numbers (lines_given shapes 1 ls) ≡ script_given shapes script
-unfolding script_given
-given-start shapes script numbers ls none e =
-    ap (λ first. after_removals first (lines_given shapes 1 ls)) none ∙ after-none (lines_given shapes 1 ls) ∙ ap (λ l. lines_given shapes 1 l) e
+pub before-none : (first : List Command) → after_commands first (commands []) ≡ commands first
+before-none first = ap commands (append-nil first)
+
+pub read-start : (shapes locations : ℕ) (script : List ℕ) (taken : List Command) (ls : List (List ℕ)) → taken ≡ [] → ls ≡ script_lines script →
+    after_commands taken (lines_read shapes locations 1 ls) ≡ script_read shapes locations script
+unfolding script_read
+read-start shapes locations script taken ls none e =
+    ap (λ first. after_commands first (lines_read shapes locations 1 ls)) none ∙ after-none (lines_read shapes locations 1 ls) ∙ ap (λ l. lines_read shapes locations 1 l) e
+
+-- ---- a faulty line decides
+
+pub fault-decides : (first : List Command) (line : ℕ) (f : LineFault) (rest : ScriptRead) → given_by (after_commands first (with_line line (Err f) rest)) ≡ faulty line f
+fault-decides first line f rest = refl
 
 -- ---- why a script stopped
 
-pub stop-unbuilt : (stop : ScriptStop) (given : ScriptGiven) → stop ≡ stops.NotBuilt → StopGiven stop given → given ≡ unbuilt
-stop-unbuilt stops.NotBuilt given is e = e
-stop-unbuilt (stops.Missing line number) given is e = cc
-stop-unbuilt stops.NoMemory given is e = cc
+pub stop-unbuilt : (shapes locations : ℕ) (stop : ScriptStop) (given : ScriptGiven) → stop ≡ stops.NotBuilt → StopGiven shapes locations stop given → given ≡ unbuilt
+stop-unbuilt shapes locations stops.NotBuilt given is e = e
+stop-unbuilt shapes locations (stops.Refused told) given is e = cc
+stop-unbuilt shapes locations stops.NoMemory given is e = cc
 
-same-missing : (l n line number : ℕ) → stops.Missing l n ≡ stops.Missing line number → (l ≡ line) × (n ≡ number)
-same-missing l n line number e = (cc, cc)
+pub stop-refused : (shapes locations : ℕ) (stop : ScriptStop) (given : ScriptGiven) (told : ScriptFault) → stop ≡ stops.Refused told → StopGiven shapes locations stop given →
+    IsRefusedAt shapes locations given told
+stop-refused shapes locations stop given told is e = subst (λ s. StopGiven shapes locations s given) is e
 
-pub stop-missing : (stop : ScriptStop) (given : ScriptGiven) (line number : ℕ) → stop ≡ stops.Missing line number → StopGiven stop given → given ≡ missing line number
-stop-missing stops.NotBuilt given line number is e = cc
-stop-missing (stops.Missing l n) given line number is e =
-    let same = same-missing l n line number is in
-    e ∙ ap (λ x. missing x n) same.0 ∙ ap (λ x. missing line x) same.1
-stop-missing stops.NoMemory given line number is e = cc
+pub refused-as : (shapes locations : ℕ) (given : ScriptGiven) (told same : ScriptFault) → told ≡ same → IsRefusedAt shapes locations given same → IsRefusedAt shapes locations given told
+refused-as shapes locations given told same is at = subst (IsRefusedAt shapes locations given) (sym is) at
 
-pub missing-told : (given : ScriptGiven) (line number line2 number2 : ℕ) → given ≡ missing line number → line2 ≡ line → number2 ≡ number → given ≡ missing line2 number2
-missing-told given line number line2 number2 e a b = e ∙ ap (λ x. missing x number) (sym a) ∙ ap (λ x. missing line2 x) (sym b)
+-- ---- the removals among commands
+
+-- these numbers before those of further commands
+abbrev pub after_numbers : List ℕ → Option (List ℕ) → Option (List ℕ)
+after_numbers first (Some ks) = Some (first ++ ks)
+after_numbers first None = None
+
+pub numbers-push : (first : List ℕ) (k : ℕ) (rest : Option (List ℕ)) → after_numbers first (before_numbers (Some k) rest) ≡ after_numbers (first ++ k ∷ []) rest
+numbers-push first k (Some ks) = ap (λ (l : List ℕ). Some l) (append-push first k ks)
+numbers-push first k None = refl
+
+pub numbers-start : (numbers : List ℕ) (rest : Option (List ℕ)) → numbers ≡ [] → after_numbers numbers rest ≡ rest
+numbers-start numbers (Some ks) e = ap (λ (l : List ℕ). Some (l ++ ks)) e
+numbers-start numbers None e = refl
+
+pub numbers-end : (first : List ℕ) → after_numbers first (Some []) ≡ Some first
+numbers-end first = ap (λ (l : List ℕ). Some l) (append-nil first)
 
 -- ---- the numbers of a script are of records
 
-same-removals : (a b : List ℕ) → removals a ≡ removals b → a ≡ b
-same-removals a b e = cc
+same-commands : (a b : List Command) → commands a ≡ commands b → a ≡ b
+same-commands a b e = cc
 
-both-true : (a b : Bool) → (a && b) ≡ true → (a ≡ true) × (b ≡ true)
-both-true true true e = (refl, refl)
-both-true true false e = cc
-both-true false b e = cc
+same-some : {A : Type 0} (a b : A) → Some a ≡ Some b → a ≡ b
+same-some a b e = cc
 
-module _ (shapes : ℕ) where
+module _ (shapes locations : ℕ) (written : CommandsAreWritten shapes locations) where
+  abbrev Ranged : List Command → Type 0
+  Ranged cs = AllByRecursion (HasLine shapes locations) cs
+
+  after-ranged : (c : Command) (said : ScriptRead) (cs : List Command) → HasLine shapes locations c → ((ds : List Command) → said ≡ commands ds → Ranged ds) →
+      after_commands (c ∷ []) said ≡ commands cs → Ranged cs
+  after-ranged c (commands ds) cs has h e = subst Ranged (same-commands _ _ e) (has, h ds refl)
+  after-ranged c (faulty_line line f) cs has h e = cc
+
+  with-ranged : (line : ℕ) (l : List ℕ) (r : Result (Option Command) LineFault) (said : ScriptRead) (cs : List Command) → command_of_line shapes locations l ≡ r →
+      ((ds : List Command) → said ≡ commands ds → Ranged ds) → with_line line r said ≡ commands cs → Ranged cs
+  with-ranged line l (Ok None) said cs is h e = h cs e
+  with-ranged line l (Ok (Some c)) said cs is h e = after-ranged c said cs (written.only l c is) h e
+  with-ranged line l (Err f) said cs is h e = cc
+
+  lines-ranged : (line : ℕ) (ls : List (List ℕ)) (cs : List Command) → lines_read shapes locations line ls ≡ commands cs → Ranged cs
+  lines-ranged line [] cs e = subst Ranged (same-commands _ _ e) tt
+  lines-ranged line (l ∷ ls) cs e =
+      with-ranged line l (command_of_line shapes locations l) (lines_read shapes locations (line + 1) ls) cs refl (lines-ranged (line + 1) ls) e
+
   abbrev InRange : List ℕ → Type 0
   InRange numbers = All (IsNumberOf shapes) numbers
 
-  number-in : (k : ℕ) → (nat_le 1 k && nat_le k shapes) ≡ true → IsNumberOf shapes k
-  number-in k e = (let both = both-true (nat_le 1 k) (nat_le k shapes) e in (leb-true 1 k both.0, leb-true k shapes both.1))
+  everywhere-in : (name : ℕ) (turn : Option Turn) (place : Option ℕ) (k : ℕ) → everywhere name turn place ≡ Some k → IsNumberOf shapes name → IsNumberOf shapes k
+  everywhere-in name None None k e is = subst (IsNumberOf shapes) (same-some _ _ e) is
+  everywhere-in name (Some turn) place k e is = cc
+  everywhere-in name None (Some place) k e is = cc
 
-  after-in_range : (k : ℕ) (rest : ScriptGiven) (numbers : List ℕ) → IsNumberOf shapes k → ((ns : List ℕ) → rest ≡ removals ns → InRange ns) →
-      after_removals (k ∷ []) rest ≡ removals numbers → InRange numbers
-  after-in_range k (removals ns) numbers n h e = subst InRange (same-removals _ _ e) (All-cons (IsNumberOf shapes) k ns n (h ns refl))
-  after-in_range k (missing line number) numbers n h e = cc
-  after-in_range k unbuilt numbers n h e = cc
+  removal-in : (c : Command) (k : ℕ) → removal_of c ≡ Some k → HasLine shapes locations c → IsNumberOf shapes k
+  removal-in (Remove sel) k e has = everywhere-in sel.name sel.turn sel.place k e has.0
+  removal-in (Replace sel tgt) k e has = cc
+  removal-in (Merge names) k e has = cc
+  removal-in (Sew names) k e has = cc
+  removal-in Apply k e has = cc
+  removal-in Undo k e has = cc
 
-  chosen : (b : Bool) (line k : ℕ) (rest : ScriptGiven) (numbers : List ℕ) → (b ≡ true → IsNumberOf shapes k) → ((ns : List ℕ) → rest ≡ removals ns → InRange ns) →
-      (if b then after_removals (k ∷ []) rest else missing line k) ≡ removals numbers → InRange numbers
-  chosen true line k rest numbers n h e = after-in_range k rest numbers (n refl) h e
-  chosen false line k rest numbers n h e = cc
+  both-in : (c : Command) (o : Option ℕ) (rest : Option (List ℕ)) (numbers : List ℕ) → removal_of c ≡ o → HasLine shapes locations c →
+      ((ks : List ℕ) → rest ≡ Some ks → InRange ks) → before_numbers o rest ≡ Some numbers → InRange numbers
+  both-in c (Some k) (Some ks) numbers is has h e = subst InRange (same-some _ _ e) (All-cons (IsNumberOf shapes) k ks (removal-in c k is has) (h ks refl))
+  both-in c (Some k) None numbers is has h e = cc
+  both-in c None rest numbers is has h e = cc
 
-  with_line-in_range : (line : ℕ) (said : ScriptLine) (rest : ScriptGiven) (numbers : List ℕ) → ((ns : List ℕ) → rest ≡ removals ns → InRange ns) →
-      with_line shapes line said rest ≡ removals numbers → InRange numbers
-  with_line-in_range line nothing rest numbers h e = h numbers e
-  with_line-in_range line another rest numbers h e = cc
-  with_line-in_range line (removes k) rest numbers h e = chosen (nat_le 1 k && nat_le k shapes) line k rest numbers (number-in k) h e
+  removals-in : (cs : List Command) (numbers : List ℕ) → Ranged cs → removals_of cs ≡ Some numbers → InRange numbers
+  removals-in [] numbers all e = subst InRange (same-some _ _ e) (All-nil (IsNumberOf shapes))
+  removals-in (c ∷ cs) numbers all e = both-in c (removal_of c) (removals_of cs) numbers refl all.0 (λ ks is. removals-in cs ks all.1 is) e
 
-  lines-in_range : (line : ℕ) (ls : List (List ℕ)) (numbers : List ℕ) → lines_given shapes line ls ≡ removals numbers → InRange numbers
-  lines-in_range line [] numbers e = subst InRange (same-removals _ _ e) (All-nil (IsNumberOf shapes))
-  lines-in_range line (l ∷ ls) numbers e = with_line-in_range line (line_of (words_of l)) (lines_given shapes (line + 1) ls) numbers (lines-in_range (line + 1) ls) e
-
-  pub script-in_range : (script numbers : List ℕ) → script_given shapes script ≡ removals numbers → All (IsNumberOf shapes) numbers
-  unfolding script_given
-  script-in_range script numbers e = lines-in_range 1 (script_lines script) numbers e
+  pub numbers-in : (script : List ℕ) (cs : List Command) (numbers : List ℕ) → script_read shapes locations script ≡ commands cs → removals_of cs ≡ Some numbers → InRange numbers
+  unfolding script_read
+  numbers-in script cs numbers said is = removals-in cs numbers (lines-ranged 1 (script_lines script) cs said) is

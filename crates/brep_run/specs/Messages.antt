@@ -6,7 +6,7 @@ use Rattle.brep_run.specs.declared.outcome.Outcome.TheVariants.{Done, Usage, Not
 use Rattle.brep_run.specs.declared.outcome.LimitKind.{LimitKind}
 use Rattle.brep_run.specs.declared.outcome.LimitKind.TheVariants.{FileBytes, ScriptBytes, ScriptLines}
 use Rattle.brep_run.specs.declared.outcome.ScriptCode.{ScriptCode}
-use Rattle.brep_run.specs.declared.outcome.ScriptCode.TheVariants.{NoSuchShape}
+use Rattle.brep_run.specs.declared.outcome.ScriptCode.TheVariants.{Syntax, NoSuchShape, NoSuchLocation}
 
 abbrev pub status_of : Outcome → ℕ
 status_of Done = 0
@@ -24,7 +24,9 @@ limit_word ScriptBytes = codes "script-bytes"
 limit_word ScriptLines = codes "script-lines"
 
 abbrev pub script_word : ScriptCode → List ℕ
+script_word Syntax = codes " syntax "
 script_word NoSuchShape = codes " no-such-shape "
+script_word NoSuchLocation = codes " no-such-location "
 
 abbrev pub message_of : Outcome → List ℕ
 message_of Done = []

@@ -17,7 +17,7 @@ use Rattle.brep_run.specs.WrittenFile.{text_of}
 use Rattle.brep_run.specs.Copies.{IsTextFor, SharesEqualTrees}
 use Rattle.brep_run.specs.Copy.{Holds, OutWritten, PrefixWritten, most_bytes}
 use Rattle.brep_run.specs.Removal.{IsRootAfter, history_after, origins_written, ArePairsOf, AreNumbersOf}
-use Rattle.brep_run.specs.Script.{script_given, removals, missing, unbuilt}
+use Rattle.brep_run.specs.Script.{ScriptGiven, IsRefusedAt, script_given, removals, unbuilt}
 
 -- the greatest numbers of bytes and of lines of a script
 abbrev pub most_script_bytes : ℕ
@@ -40,12 +40,20 @@ pub record HoldsScript (old : Shown) (script lines : List ℕ) : Type 0 where
   pub few_bytes : length lines ≤ most_script_bytes
   pub few_lines : script_line_count lines ≤ most_script_lines
 
+-- how many locations a file has
+abbrev pub location_count : File → ℕ
+location_count f = 0
+
+-- what a script gives for a file
+abbrev pub given_for : File → List ℕ → ScriptGiven
+given_for f lines = script_given (length f.records) (location_count f) lines
+
 -- the file is read, and the script removes shapes of it, with these numbers
 pub record IsAccepted (old : Shown) (source script : List ℕ) (f : File) (numbers : List ℕ) : Type 0 where
   pub file : HoldsFile old source f
   pub lines : List ℕ
   pub held : HoldsScript old script lines
-  pub given : script_given (length f.records) lines ≡ removals numbers
+  pub given : given_for f lines ≡ removals numbers
 
 -- ---- what is written
 
@@ -114,17 +122,17 @@ IsRewriteStopped t old new source script target history file taken =
 
 -- ---- refusals, where it is told what the names hold
 
--- the source holds no file that is read, or a line of the script that decides has another form
+-- the source holds no file that is read, or no line of the script is faulty and a command does something else than remove a shape
 abbrev pub IsRewriteUnbuilt : Tells → Shown → List ℕ → List ℕ → Type 0
 IsRewriteUnbuilt t old source script = IsTrue t.held →
     ((bytes : List ℕ) × Holds old source bytes × ((f : File) → Reads bytes f → ⊥))
-    ⊎ ((f : File) × (lines : List ℕ) × HoldsFile old source f × HoldsScript old script lines × (script_given (length f.records) lines ≡ unbuilt))
+    ⊎ ((f : File) × (lines : List ℕ) × HoldsFile old source f × HoldsScript old script lines × (given_for f lines ≡ unbuilt))
 
--- a line of the script names a shape that isn't there
+-- a line of the script is faulty, and it is the first
 abbrev pub IsRefusedLine : Tells → Shown → List ℕ → List ℕ → ScriptFault → Type 0
 IsRefusedLine t old source script fault = IsTrue t.held →
     (f : File) × (lines : List ℕ) × HoldsFile old source f × HoldsScript old script lines
-    × (script_given (length f.records) lines ≡ missing fault.line fault.first) × (fault.second ≡ length f.records)
+    × IsRefusedAt (length f.records) (location_count f) (given_for f lines) fault
 
 -- the script has more lines than the limit
 pub record HasMoreLines (old : Shown) (script : List ℕ) : Type 0 where

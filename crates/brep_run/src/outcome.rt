@@ -13,11 +13,13 @@ pub enum LimitKind {
     ScriptLines,
 }
 
-/// Why a line of a script is refused. At `NoSuchShape`, `first` is the number that it names, and `second` how many records
-/// the file has.
+/// Why a line of a script is refused. At `Syntax`, where it spells no command, `first` and `second` are 0. At `NoSuchShape`
+/// and `NoSuchLocation`, `first` is the number that it names, and `second` how many records or locations the file has.
 #[derive(Clone, Copy, Debug, PartialEq, Eq)]
 pub enum ScriptCode {
+    Syntax,
     NoSuchShape,
+    NoSuchLocation,
 }
 
 /// A line of a script that is refused, by its number from 1 on.
@@ -130,12 +132,32 @@ impl Outcome {
             Outcome::Script(
                 ScriptFault {
                     line,
+                    code: ScriptCode::Syntax,
+                    first,
+                    second,
+                },
+            ) => Ok(Message {
+                text: format!(in alloc; "script line {line} syntax {first} {second}")?,
+            }),
+            Outcome::Script(
+                ScriptFault {
+                    line,
                     code: ScriptCode::NoSuchShape,
                     first,
                     second,
                 },
             ) => Ok(Message {
                 text: format!(in alloc; "script line {line} no-such-shape {first} {second}")?,
+            }),
+            Outcome::Script(
+                ScriptFault {
+                    line,
+                    code: ScriptCode::NoSuchLocation,
+                    first,
+                    second,
+                },
+            ) => Ok(Message {
+                text: format!(in alloc; "script line {line} no-such-location {first} {second}")?,
             }),
             Outcome::ReadDesk { before, after } => Ok(Message {
                 text: format!(in alloc; "read fault {before} {after}")?,

@@ -12,7 +12,7 @@ ghost use Rattle.brep_file.specs.Sound.{IsSound};
 
 use crate::copy::{FILE_BYTES, write_out};
 use crate::laws::texts_stand_for_roots;
-use crate::outcome::{LimitKind, Outcome, ScriptCode, ScriptFault};
+use crate::outcome::{LimitKind, Outcome};
 use crate::removal::without;
 use crate::script::{ScriptStop, removed_numbers};
 use brep_desk::{Desk, ReadAll, read_all};
@@ -193,17 +193,10 @@ pub(crate) fn rewrite<D: Desk>(
         };
     }
     let shapes = file.records.len();
-    let numbers = match removed_numbers(alloc, &lines, shapes as u32) {
+    let numbers = match removed_numbers(alloc, &lines, shapes as u32, 0) {
         Ok(numbers) => numbers,
+        Err(ScriptStop::Refused(fault)) => return Outcome::Script(fault),
         Err(ScriptStop::NotBuilt) => return Outcome::NotBuilt,
-        Err(ScriptStop::Missing { line, number }) => {
-            return Outcome::Script(ScriptFault {
-                line,
-                code: ScriptCode::NoSuchShape,
-                first: number,
-                second: shapes as u64,
-            });
-        }
         Err(ScriptStop::NoMemory) => return Outcome::NoMemory,
     };
     match rewriting_of(alloc, file, &numbers, room) {

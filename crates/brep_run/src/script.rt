@@ -1,105 +1,137 @@
-//! The scripts that are carried out: each line is nothing, or `remove` with the number of a record.
-ghost use Rattle.brep_run.specs.Script.{LineGiven, ScriptGiven, StopGiven, after_removals, line_of, removal_of, removals, script_given, with_line};
+//! What a script says: the commands of its lines, and the removals among them.
+ghost use Rattle.expansion_laws.specs.Expansion.{IsNumberOf};
+ghost use Rattle.brep_run.specs.Script.{ScriptRead, StopGiven, after_commands, faulty, given_by, commands, removal_of, removals, removals_of, script_given, script_read, with_line};
 ghost use Rattle.script_text.specs.Lines.{script_lines};
-ghost use Rattle.script_text.specs.Words.{words_of};
-ghost use Rattle.std.specs.Prelude.{◌≡◌, ◌<◌, ◌^◌, IfErr, IfOk, OnOk, length};
+ghost use Rattle.script_text.specs.Meaning.{command_of_line};
+ghost use Rattle.std.specs.Prelude.{◌≡◌, ◌<◌, ◌^◌, All, IfErr, IfOk, MatchOption, None, OnOk, Some, length};
 
-use brep_tokens::number;
-use script_text::{first_word, lines_of, says_nothing};
-use std::alloc::Global;
+use crate::outcome::{ScriptCode, ScriptFault};
+use script_text::laws::commands_have_lines;
+use script_text::{Command, LineFault, Sel, lines_of, parse};
+use std::alloc::{AllocError, Global};
 
-/// What a line asks for.
-#[derive(Clone, Copy)]
-pub(crate) enum Line {
-    Nothing,
-    Remove(u64),
-    Another,
-}
-
-/// Why a script isn't carried out: a line has another form, the line with this number names a record that isn't there, or
-/// memory ran out.
+/// Why a script isn't carried out: a line is faulty, a command does something else than remove a shape everywhere, or memory
+/// ran out.
 #[derive(Clone, Copy)]
 pub(crate) enum ScriptStop {
+    Refused(ScriptFault),
     NotBuilt,
-    Missing { line: u64, number: u64 },
     NoMemory,
 }
 
-/// What the words after `remove` ask for: one number.
-fn removal_asked(rest: &[u8]) -> Line
-    ensures { LineGiven result (removal_of (words_of rest.now)) }
+/// The fault of the line with this number.
+fn stop_at(line: u64, fault: LineFault, shapes: u32, locations: u32) -> ScriptStop
+    ensures { StopGiven shapes locations result (faulty line fault) }
 {
-    match first_word(rest) {
-        None => Line::Another,
-        Some((word, more)) => match first_word(more) {
-            Some(_) => Line::Another,
-            None => match number(word) {
-                Some(k) => Line::Remove(k),
-                None => Line::Another,
-            },
+    let (code, first, second) = match fault {
+        LineFault::Syntax => (ScriptCode::Syntax, 0, 0),
+        LineFault::NoSuchShape(number) => (ScriptCode::NoSuchShape, number, shapes as u64),
+        LineFault::NoSuchLocation(number) => {
+            (ScriptCode::NoSuchLocation, number, locations as u64)
+        }
+        LineFault::NoMemory => return ScriptStop::NoMemory,
+    };
+    ScriptStop::Refused(ScriptFault {
+        line,
+        code,
+        first,
+        second,
+    })
+}
+
+/// Takes a line, of which this is the number: it is passed over, or its command is appended.
+fn take_line(
+    alloc: Global,
+    taken: &mut Vec<Command>,
+    at: u64,
+    bytes: &[u8],
+    shapes: u32,
+    locations: u32,
+) -> Result<(), ScriptStop>
+    ensures ok { OnOk result ((rest : ScriptRead) → after_commands taken.old.items (with_line at (command_of_line shapes locations bytes.now) rest) ≡ after_commands taken.new.items rest) }
+    ensures err { IfErr result (λ e. (rest : ScriptRead) → StopGiven shapes locations e (given_by (after_commands taken.old.items (with_line at (command_of_line shapes locations bytes.now) rest)))) }
+{
+    match parse(alloc, bytes, shapes, locations) {
+        Ok(None) => Ok(()),
+        Ok(Some(command)) => match taken.push(command) {
+            Ok(()) => Ok(()),
+            Err(_) => Err(ScriptStop::NoMemory),
         },
+        Err(fault) => Err(stop_at(at, fault, shapes, locations)),
     }
 }
 
-/// What a line asks for.
-fn asked_by(bytes: &[u8]) -> Line
-    ensures { LineGiven result (line_of (words_of bytes.now)) }
-{
-    if says_nothing(bytes) {
-        return Line::Nothing;
-    }
-    match first_word(bytes) {
-        None => Line::Nothing,
-        Some((word, rest)) => {
-            if word == b"remove".as_slice() {
-                removal_asked(rest)
-            } else {
-                Line::Another
-            }
-        }
-    }
-}
-
-/// Takes a line, of which this is the number: it is passed over, or its record is appended.
-fn take_line(numbers: &mut Vec<u32>, at: u64, bytes: &[u8], shapes: u32) -> Result<(), ScriptStop>
-    ensures ok { OnOk result ((rest : ScriptGiven) → after_removals numbers.old.items (with_line shapes at (line_of (words_of bytes.now)) rest) ≡ after_removals numbers.new.items rest) }
-    ensures err { IfErr result (λ e. (rest : ScriptGiven) → StopGiven e (after_removals numbers.old.items (with_line shapes at (line_of (words_of bytes.now)) rest))) }
-{
-    match asked_by(bytes) {
-        Line::Nothing => Ok(()),
-        Line::Another => Err(ScriptStop::NotBuilt),
-        Line::Remove(number) => {
-            if 1 <= number && number <= shapes as u64 {
-                match numbers.push(number as u32) {
-                    Ok(()) => Ok(()),
-                    Err(_) => Err(ScriptStop::NoMemory),
-                }
-            } else {
-                Err(ScriptStop::Missing { line: at, number })
-            }
-        }
-    }
-}
-
-/// The numbers of the records that a script removes, in its order, for a file with so many records.
-pub(crate) fn removed_numbers(
+/// The commands of a script in their order, over so many records and locations of a file.
+fn commands_of(
     alloc: Global,
     script: &[u8],
     shapes: u32,
-) -> Result<Vec<u32>, ScriptStop>
+    locations: u32,
+) -> Result<Vec<Command>, ScriptStop>
     requires { length (script_lines script.now) < 2 ^ 64 }
-    ensures ok { IfOk result (λ numbers. script_given shapes script.now ≡ removals numbers.items) }
-    ensures err { IfErr result (λ e. StopGiven e (script_given shapes script.now)) }
+    ensures ok { IfOk result (λ taken. script_read shapes locations script.now ≡ commands taken.items) }
+    ensures err { IfErr result (λ e. StopGiven shapes locations e (script_given shapes locations script.now)) }
 {
-    let mut numbers = Vec::new(alloc);
+    let mut taken = Vec::new(alloc);
     let mut lines = lines_of(script);
     let mut at = 0u64;
     'lines: while let Some(bytes) = lines.next() {
         at += 1;
-        match take_line(&mut numbers, at, bytes, shapes) {
+        match take_line(alloc, &mut taken, at, bytes, shapes, locations) {
             Ok(()) => {}
             Err(stop) => return Err(stop),
         }
     }
-    Ok(numbers)
+    Ok(taken)
+}
+
+/// The number of the shape that a command removes everywhere, if it is such a command.
+fn removal(command: &Command) -> Option<u32>
+    ensures { result ≡ removal_of command.now }
+{
+    match command {
+        Command::Remove {
+            sel: Sel {
+                name,
+                turn: None,
+                place: None,
+            },
+        } => Some(*name),
+        _ => None,
+    }
+}
+
+/// The numbers of the shapes that the commands remove, if each removes one everywhere.
+fn removals_among(alloc: Global, commands: &[Command]) -> Result<Option<Vec<u32>>, AllocError>
+    ensures { IfOk result (λ r. MatchOption r (removals_of commands.now ≡ None) (λ numbers. removals_of commands.now ≡ Some numbers.items)) }
+{
+    let mut numbers = Vec::new(alloc);
+    'commands: for command in commands {
+        match removal(command) {
+            None => return Ok(None),
+            Some(number) => numbers.push(number)?,
+        }
+    }
+    Ok(Some(numbers))
+}
+
+/// The numbers of the records that a script removes, in its order, for a file with so many records and locations.
+pub(crate) fn removed_numbers(
+    alloc: Global,
+    script: &[u8],
+    shapes: u32,
+    locations: u32,
+) -> Result<Vec<u32>, ScriptStop>
+    requires { length (script_lines script.now) < 2 ^ 64 }
+    ensures ok { IfOk result (λ numbers. script_given shapes locations script.now ≡ removals numbers.items) }
+    ensures err { IfErr result (λ e. StopGiven shapes locations e (script_given shapes locations script.now)) }
+    ensures in_range { IfOk result (λ numbers. All (IsNumberOf shapes) numbers.items) }
+{
+    commands_have_lines();
+    let commands = commands_of(alloc, script, shapes, locations)?;
+    match removals_among(alloc, &commands) {
+        Ok(Some(numbers)) => Ok(numbers),
+        Ok(None) => Err(ScriptStop::NotBuilt),
+        Err(_) => Err(ScriptStop::NoMemory),
+    }
 }

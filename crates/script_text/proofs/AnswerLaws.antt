@@ -1,5 +1,5 @@
 -- The command of a line is the one that its words spell.
-use Rattle.std.proofs.Common.{◌≡◌, ◌≢◌, ℕ, inl, inr, Bool, true, false, ◌&&◌, nat_le, if◌then◌else◌, List, [], ◌∷◌, codes, Option, Some, None, Result, Ok, Err, refl, sym, ap, subst, ◌∙◌}
+use Rattle.std.proofs.Common.{◌≡◌, ℕ, inl, inr, Bool, true, false, ◌&&◌, nat_le, if◌then◌else◌, List, [], ◌∷◌, Option, Some, None, Result, Ok, Err, refl, sym, ap, subst, ◌∙◌}
 use Rattle.script_text.specs.Answers.{Answers}
 use Rattle.script_text.specs.Laws.{LinesSpellOneCommand}
 use Rattle.script_text.specs.Meaning.{Gives, first_fault, mentions_fault, selection_fault, command_of_line, command_of_phrase, fault_of, meaning_of, shape_fault, location_fault, unless_faulty}
@@ -18,7 +18,7 @@ use Rattle.script_text.proofs.ReadingWhole.{phrase_back, phrase_there}
 true_false : true ≡ false → ⊥
 true_false e = cc
 
-spelling_says : (p : Phrase) → is_nothing (spelling p) ≡ false
+pub spelling_says : (p : Phrase) → is_nothing (spelling p) ≡ false
 spelling_says (Replace s place t l) = refl
 spelling_says (Remove s place) = refl
 spelling_says (Merge ms) = refl
@@ -105,7 +105,7 @@ by_words : (shapes locations : ℕ) (x : Bool) (words : List (List ℕ)) → is_
 by_words shapes locations true words is = is
 by_words shapes locations false words is = with_phrase shapes locations words (phrase_of words) is refl
 
-answers : (shapes locations : ℕ) (line : List ℕ) → Answers shapes locations (words_of line) (command_of_line shapes locations line)
+pub answers : (shapes locations : ℕ) (line : List ℕ) → Answers shapes locations (words_of line) (command_of_line shapes locations line)
 answers shapes locations line = by_words shapes locations (is_nothing (words_of line)) (words_of line) refl
 
 pub answers_given : (shapes locations : ℕ) (line : List ℕ) (r : Result (Option Command) LineFault) → Gives r (command_of_line shapes locations line) → Answers shapes locations (words_of line) r

@@ -1,5 +1,5 @@
 -- No number stands twice exactly where the set of the numbers is as large as their list.
-use Rattle.std.proofs.Common.{◌≡◌, ◌≢◌, ℕ, Bool, true, false, ◌==◌, ◌&&◌, ◌||◌, not, nat_eq, List, [], ◌∷◌, length, map, refl, sym, ap, ◌∙◌}
+use Rattle.std.proofs.Common.{◌≡◌, ◌≢◌, ℕ, Bool, true, false, ◌==◌, ◌&&◌, ◌||◌, not, nat_eq, List, [], ◌∷◌, length, map, refl}
 use Rattle.std.specs.Bool.{Decides}
 use Rattle.std.specs.List.{AllPairs, AllByRecursion, IsDistinct, list_any}
 use Rattle.std.specs.Cmp.{unsigned_Decides}

@@ -4,3 +4,5 @@ pub mod Distinct
 pub mod ReadingParts
 pub mod ReadingWhole
 pub mod AnswerLaws
+pub mod WrittenWords
+pub mod WritingLaws

@@ -1,7 +1,7 @@
 -- The first word of a line.
-use Rattle.std.proofs.Common.{◌≡◌, ℕ, suc, ◌+◌, ◌<◌, ◌≤◌, Bool, true, false, List, [], ◌∷◌, length, take, drop, if◌then◌else◌, refl, sym, ap, subst, ◌∙◌, arith}
+use Rattle.std.proofs.Common.{◌≡◌, ℕ, ◌<◌, ◌≤◌, Bool, true, false, List, [], ◌∷◌, length, take, drop, refl, sym, ◌∙◌, arith}
 use Rattle.std.proofs.lemmas.List.{length-drop}
-use Rattle.script_text.specs.Words.{is_blank, onto_word, starts_blank, word_size, words_of}
+use Rattle.script_text.specs.Words.{is_blank, starts_blank, word_size, words_of}
 
 size_zero : (bs : List ℕ) → starts_blank bs ≡ true → word_size bs ≡ 0
 size_zero [] h = refl

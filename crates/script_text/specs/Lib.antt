@@ -5,4 +5,5 @@ pub mod Spelling
 pub mod Reading
 pub mod Meaning
 pub mod Answers
+pub mod Writing
 pub mod Laws

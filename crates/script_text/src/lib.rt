@@ -12,9 +12,10 @@ mod reading;
 #[cfg(test)]
 mod tests;
 mod words;
+mod writing;
 
 pub use command::{Command, LineFault, Sel, SignedName, Tgt};
 pub use lines::{Lines, line_count, lines_of};
 pub use lists::{Names, SignedNames};
 pub use parsing::parse;
-pub use words::{first_word, says_nothing};
+pub use writing::spell;

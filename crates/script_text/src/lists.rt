@@ -58,6 +58,12 @@ impl Names {
     {
         self.items.get(at)
     }
+
+    pub(crate) fn as_slice(&self) -> &[u32]
+        ensures { result.now ≡ self.now }
+    {
+        &self.items
+    }
 }
 
 /// Names with their turns, in their order.
@@ -113,5 +119,11 @@ impl SignedNames {
         ensures none { IfNone result (length self.now ≤ at) }
     {
         self.items.get(at)
+    }
+
+    pub(crate) fn as_slice(&self) -> &[SignedName]
+        ensures { result.now ≡ self.now }
+    {
+        &self.items
     }
 }

@@ -34,7 +34,7 @@ fn size_of_word(line: &[u8]) -> usize
 }
 
 /// The first word of a line, and what follows it.
-pub fn first_word(line: &[u8]) -> Option<(&[u8], &[u8])>
+pub(crate) fn first_word(line: &[u8]) -> Option<(&[u8], &[u8])>
     ensures { MatchOption result (words_of line.now ≡ []) (λ r. (words_of line.now ≡ r.0.now ∷ words_of r.1.now) × (length r.1.now < length line.now)) }
 {
     let dark = past_blanks(line);
@@ -46,7 +46,7 @@ pub fn first_word(line: &[u8]) -> Option<(&[u8], &[u8])>
 }
 
 /// Is the line empty but for spaces and tabs, or a comment?
-pub fn says_nothing(line: &[u8]) -> bool
+pub(crate) fn says_nothing(line: &[u8]) -> bool
     ensures { result ≡ is_nothing (words_of line.now) }
 {
     match first_word(line) {

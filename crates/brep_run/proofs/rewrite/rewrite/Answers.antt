@@ -4,11 +4,11 @@ use Rattle.std.specs.Prelude.{All, Err}
 use Rattle.expansion_laws.specs.Expansion.{IsNumberOf}
 use Rattle.brep_file.specs.declared.file.File.{File}
 use Rattle.brep_run.specs.Script.{StopGiven, script_given}
-use Rattle.brep_run.specs.Rewrite.{AreDue, AreTextsOf}
+use Rattle.brep_run.specs.Rewrite.{AreTextsOf}
 use Rattle.history_text.specs.HistoryText.{text_of}
 use Rattle.brep_run.proofs.Reading.{held-before, quiet-both, closed-both, done-after, stopped-after}
 use Rattle.brep_file.proofs.ReadFiles.{reads-of, none-of}
-use Rattle.brep_run.proofs.ScriptLemmas.{stop-unbuilt, stop-missing, missing-told, script-in_range}
+use Rattle.brep_run.proofs.ScriptLemmas.{stop-unbuilt, stop-refused, refused-as}
 use Rattle.brep_run.proofs.rewrite.rewrite.Goals as goal
 
 pub returns-in-Err-NotBuilt-clause-not_built : goal.returns-in-Err-NotBuilt-clause-not_built
@@ -77,13 +77,13 @@ returns-in-Err-NotBuilt-removed_numbers-clause-not_built g c = λ told. (
         few_bytes = c.in-Ok-read_all.ensures.whole.0;
         few_lines = omega (arith, counted, few);
       },
-      stop-unbuilt c.in-Err-NotBuilt-removed_numbers.field-0 _ c.in-Err-NotBuilt-removed_numbers.field-0-is
-          (subst (λ s. StopGiven c.in-Err-NotBuilt-removed_numbers.field-0 (script_given (length c.in-Ok-read_file.file.records) s)) c.deref-2.ensures.value
-          (subst (λ n. StopGiven c.in-Err-NotBuilt-removed_numbers.field-0 (script_given n c.deref-2.result.now)) c.len-shapes.ensures c.in-Err-NotBuilt-removed_numbers.ensures.err)),
+      stop-unbuilt (length c.in-Ok-read_file.file.records) 0 c.in-Err-NotBuilt-removed_numbers.field-0 _ c.in-Err-NotBuilt-removed_numbers.field-0-is
+          (subst (λ s. StopGiven (length c.in-Ok-read_file.file.records) 0 c.in-Err-NotBuilt-removed_numbers.field-0 (script_given (length c.in-Ok-read_file.file.records) 0 s)) c.deref-2.ensures.value
+          (subst (λ n. StopGiven n 0 c.in-Err-NotBuilt-removed_numbers.field-0 (script_given n 0 c.deref-2.result.now)) c.len-shapes.ensures c.in-Err-NotBuilt-removed_numbers.ensures.err)),
     ))
 
-pub returns-in-Err-Missing-clause-script : goal.returns-in-Err-Missing-clause-script
-returns-in-Err-Missing-clause-script g c = λ told. (
+pub returns-in-Err-Refused-clause-script : goal.returns-in-Err-Refused-clause-script
+returns-in-Err-Refused-clause-script g c = λ told. (
     let counted = c.line_count.ensures.counted ∙ ap script_line_count c.deref.ensures.value in
     let few = c.if-line_count-gt-SCRIPT_LINES.false in (
       c.in-Ok-read_file.file,
@@ -98,11 +98,9 @@ returns-in-Err-Missing-clause-script g c = λ told. (
         few_bytes = c.in-Ok-read_all.ensures.whole.0;
         few_lines = omega (arith, counted, few);
       },
-      missing-told _ c.in-Err-Missing.line c.in-Err-Missing.number _ _ (stop-missing c.in-Err-Missing.field-0 _ _ _ c.in-Err-Missing.field-0-is
-          (subst (λ s. StopGiven c.in-Err-Missing.field-0 (script_given (length c.in-Ok-read_file.file.records) s)) c.deref-2.ensures.value
-          (subst (λ n. StopGiven c.in-Err-Missing.field-0 (script_given n c.deref-2.result.now)) c.len-shapes.ensures c.in-Err-Missing.ensures.err)))
-          c.in-Err-Missing.line-is c.in-Err-Missing.number-is,
-      c.len-shapes.ensures,
+      refused-as _ _ _ _ _ c.in-Err-Refused.fault-is (stop-refused (length c.in-Ok-read_file.file.records) 0 c.in-Err-Refused.field-0 _ _ c.in-Err-Refused.field-0-is
+          (subst (λ s. StopGiven (length c.in-Ok-read_file.file.records) 0 c.in-Err-Refused.field-0 (script_given (length c.in-Ok-read_file.file.records) 0 s)) c.deref-2.ensures.value
+          (subst (λ n. StopGiven n 0 c.in-Err-Refused.field-0 (script_given n 0 c.deref-2.result.now)) c.len-shapes.ensures c.in-Err-Refused.ensures.err))),
     ))
 
 pub rewriting_of-requires-clause-sound : goal.rewriting_of-requires-clause-sound
@@ -111,8 +109,7 @@ rewriting_of-requires-clause-sound g c = (reads-of c.reading_is_exact.ensures _ 
 pub rewriting_of-requires-clause-numbers : goal.rewriting_of-requires-clause-numbers
 rewriting_of-requires-clause-numbers g c =
     subst (All (IsNumberOf (length c.in-Ok-read_file.file.records))) (sym c.deref-3.ensures.value)
-    (script-in_range (length c.in-Ok-read_file.file.records) c.deref-2.result.now c.in-Ok-removed_numbers.numbers.items
-    (ap (λ n. script_given n c.deref-2.result.now) (sym c.len-shapes.ensures) ∙ c.in-Ok-removed_numbers.ensures.ok))
+    (subst (λ n. All (IsNumberOf n) c.in-Ok-removed_numbers.numbers.items) c.len-shapes.ensures c.in-Ok-removed_numbers.ensures.in_range)
 
 pub returns-in-Ok-rewriting_of-clause-done : goal.returns-in-Ok-rewriting_of-clause-done
 returns-in-Ok-rewriting_of-clause-done g c =
@@ -138,8 +135,8 @@ returns-in-Ok-rewriting_of-clause-done g c =
           few_bytes = c.in-Ok-read_all.ensures.whole.0;
           few_lines = omega (arith, counted, few);
         };
-        given = ap (λ s. script_given (length c.in-Ok-read_file.file.records) s) (sym c.deref-2.ensures.value)
-            ∙ ap (λ n. script_given n c.deref-2.result.now) (sym c.len-shapes.ensures) ∙ c.in-Ok-removed_numbers.ensures.ok;
+        given = ap (λ s. script_given (length c.in-Ok-read_file.file.records) 0 s) (sym c.deref-2.ensures.value)
+            ∙ ap (λ n. script_given n 0 c.deref-2.result.now) (sym c.len-shapes.ensures) ∙ c.in-Ok-removed_numbers.ensures.ok;
       },
       subst (λ x. AreTextsOf c.in-Ok-read_file.file c.in-Ok-removed_numbers.numbers.items made.0 x (text_of c.in-Ok-rewriting_of.made.history)) (sym c.deref-in-Ok-rewriting_of.ensures.value)
           (subst (λ ns. AreTextsOf c.in-Ok-read_file.file ns made.0 c.in-Ok-rewriting_of.made.text.items (text_of c.in-Ok-rewriting_of.made.history)) c.deref-3.ensures.value made.1),
@@ -170,8 +167,8 @@ returns-in-Ok-rewriting_of-clause-stopped g c =
           few_bytes = c.in-Ok-read_all.ensures.whole.0;
           few_lines = omega (arith, counted, few);
         };
-        given = ap (λ s. script_given (length c.in-Ok-read_file.file.records) s) (sym c.deref-2.ensures.value)
-            ∙ ap (λ n. script_given n c.deref-2.result.now) (sym c.len-shapes.ensures) ∙ c.in-Ok-removed_numbers.ensures.ok;
+        given = ap (λ s. script_given (length c.in-Ok-read_file.file.records) 0 s) (sym c.deref-2.ensures.value)
+            ∙ ap (λ n. script_given n 0 c.deref-2.result.now) (sym c.len-shapes.ensures) ∙ c.in-Ok-removed_numbers.ensures.ok;
       },
       subst (λ x. AreTextsOf c.in-Ok-read_file.file c.in-Ok-removed_numbers.numbers.items made.0 x (text_of c.in-Ok-rewriting_of.made.history)) (sym c.deref-in-Ok-rewriting_of.ensures.value)
           (subst (λ ns. AreTextsOf c.in-Ok-read_file.file ns made.0 c.in-Ok-rewriting_of.made.text.items (text_of c.in-Ok-rewriting_of.made.history)) c.deref-3.ensures.value made.1),

@@ -1,14 +1,15 @@
-use Rattle.std.proofs.Common.{◌∙◌, ◌+◌, ap, sym, subst, length, arith}
-use Rattle.script_text.specs.LinesLeft.{lines_left}
-use Rattle.brep_run.specs.Script.{StopGiven, after_removals, lines_given}
-use Rattle.brep_run.proofs.ScriptLemmas.{given-start}
+use Rattle.std.proofs.Common.{◌≡◌, ◌∙◌, None, Some, ap, sym, subst, arith}
+use Rattle.std.specs.Prelude.{MatchOption}
+use Rattle.brep_run.specs.Script.{removals_of}
+use Rattle.brep_run.proofs.ScriptLemmas.{numbers-in}
 use Rattle.brep_run.proofs.script.removed_numbers.Goals as goal
 
-pub lines-init : goal.lines-init
-lines-init c = record { numbered = (let all = ap length c.lines_of-lines.ensures in omega (arith, all)); given = given-start c.args.shapes c.args.script.now _ _ c.new-numbers.ensures.items c.lines_of-lines.ensures }
-
-pub returns-in-Err-clause-err : goal.returns-in-Err-clause-err
-returns-in-Err-clause-err c =
-    subst (StopGiven c.in-Err.stop)
-    (ap (λ ls. after_removals c.lines.numbers.items (lines_given c.args.shapes (c.lines.at + 1) ls)) (sym c.in-Some.ensures.steps) ∙ c.lines.invariant.given)
-    (c.in-Err.ensures.err (lines_given c.args.shapes (c.lines.at + 1 + 1) (lines_left c.next.new.self)))
+pub returns-in-Ok-Some-clause-in_range : goal.returns-in-Ok-Some-clause-in_range
+returns-in-Ok-Some-clause-in_range c =
+    let few_shapes = c.ranges.shapes.fits in
+    let few_locations = c.ranges.locations.fits in
+    numbers-in c.args.shapes c.args.locations
+    (c.commands_have_lines.ensures c.args.shapes c.args.locations (omega (arith, few_shapes)) (omega (arith, few_locations)))
+    c.args.script.now c.in_ok-commands.commands.items c.in-Ok-Some.numbers.items c.in_ok-commands.ensures.ok
+    (ap removals_of (sym c.deref.ensures.value)
+    ∙ subst (λ r. MatchOption r (removals_of c.deref.result.now ≡ None) (λ numbers. removals_of c.deref.result.now ≡ Some numbers.items)) c.in-Ok-Some.field-0-is c.in-Ok-Some.ensures)

@@ -2,8 +2,7 @@ use Rattle.std.proofs.Common.{sym, ap, subst, ◌∙◌}
 use Rattle.brep_run.specs.Words.{asked_of}
 use Rattle.brep_file.specs.PlainRecords.{plain_records, plain_use}
 use Rattle.brep_run.proofs.CopyLemmas.{file-sound}
-use Rattle.brep_run.specs.Outcomes.{OnDone, IsDoneOrNoMemory, IsReadDeskOrNoMemory}
-use Rattle.brep_run.specs.Words.{rewrites}
+use Rattle.brep_run.specs.Outcomes.{OnDone}
 use Rattle.brep_run.specs.Runs.{Expands, Shares, IsReady, IsMissing}
 use Rattle.brep_run.proofs.CopyLaws.{done_stands, done_shares}
 use Rattle.brep_run.proofs.RewriteLaws.{if_done_expands, if_done_shares, ready_is_done, missing_is_fault}

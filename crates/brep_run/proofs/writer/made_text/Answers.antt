@@ -1,4 +1,4 @@
-use Rattle.std.proofs.Common.{◌≡◌, ◌∙◌, ◌++◌, sym, ap}
+use Rattle.std.proofs.Common.{◌∙◌, ◌++◌, sym, ap}
 use Rattle.std.specs.Prelude.{codes}
 use Rattle.brep_run.proofs.MadeRoot.{made-text}
 use Rattle.brep_run.proofs.writer.made_text.Goals as goal

@@ -1,4 +1,4 @@
-use Rattle.std.proofs.Common.{◌≡◌, ◌≤◌, ◌+◌, ◌==◌, if◌then◌else◌, length, drop, false}
+use Rattle.std.proofs.Common.{◌≡◌, ◌≤◌, ◌+◌, ◌==◌, if◌then◌else◌, drop, false}
 use Rattle.std.specs.Prelude.{count_by}
 use Rattle.script_text.specs.Lines.{leaves_open}
 use Rattle.script_text.proofs.lines.counted.Given as goal

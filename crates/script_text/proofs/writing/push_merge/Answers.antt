@@ -1,0 +1,9 @@
+use Rattle.std.proofs.Common.{ap, map}
+use Rattle.script_text.specs.Spelling.{spell_mention}
+use Rattle.script_text.specs.Writing.{bare_mention}
+use Rattle.script_text.proofs.WrittenWords.{joined_after}
+use Rattle.script_text.proofs.writing.push_merge.Goals as goal
+
+pub returns : goal.returns
+returns c =
+    joined_after _ _ _ _ _ _ c.in_ok-extend_from_slice.ensures.items (ap (λ ns. map spell_mention (map bare_mention ns)) c.as_slice.ensures) c.in_ok-push_names.ensures
