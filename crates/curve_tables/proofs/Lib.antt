@@ -1,0 +1,9 @@
+pub mod Rooms
+pub mod FrameLaws
+pub mod Waiting
+pub mod Equations2
+pub mod Equations3
+pub mod ChainLaws
+pub mod LeafLaws
+pub mod CurveLaws2
+pub mod CurveLaws3

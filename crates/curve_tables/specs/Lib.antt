@@ -1,0 +1,11 @@
+pub mod Counts
+pub mod Chains
+pub mod Curves
+pub mod ChainLeft
+pub mod Left
+pub mod Spelling
+pub mod Sound
+pub mod Shapes
+pub mod Laws
+pub mod SpellLeft
+pub mod Parts

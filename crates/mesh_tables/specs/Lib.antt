@@ -1,0 +1,9 @@
+pub mod Counts
+pub mod Meshes
+pub mod Spelling
+pub mod Sound
+pub mod Laws
+pub mod SpellLeft
+pub mod PolygonLeft
+pub mod PolygonOnLeft
+pub mod MeshLeft
