@@ -1,0 +1,11 @@
+pub mod Words
+pub mod Limits
+pub mod Locations
+pub mod Stops
+pub mod Left
+pub mod Spell
+pub mod Held
+pub mod Written
+pub mod Sections
+pub mod SectionLeft
+pub mod Laws
