@@ -1,0 +1,10 @@
+pub mod FrameLaws
+pub mod Waiting
+pub mod Settling
+pub mod Nesting
+pub mod Equations
+pub mod HeaderLaws
+pub mod PartLaws
+pub mod SurfaceLaws
+pub mod FormLaws
+pub mod KnotsSteps

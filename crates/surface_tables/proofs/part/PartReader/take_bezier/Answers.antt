@@ -1,0 +1,11 @@
+-- The token was taken, and what is left is settled.
+use Rattle.std.proofs.Common.{◌≡◌, ◌∷◌, List, refl}
+use Rattle.brep_tokens.specs.declared.text.Token.{Token}
+use Rattle.surface_tables.specs.PartLeft.{at_stage}
+use Rattle.surface_tables.specs.declared.part.Stage.TheVariants as stages
+use Rattle.surface_tables.proofs.Settling.{steps_settled}
+use Rattle.surface_tables.proofs.part.PartReader.take_bezier.Goals as goal
+
+pub returns-in-Ok-clause-part : goal.returns-in-Ok-clause-part
+returns-in-Ok-clause-part c =
+    steps_settled (at_stage (stages.Bezier c.args.header) c.args.self.now) _ c.args.t.now (λ rest. rw (c.in-Ok.ensures rest) refl) c.go.new.self c.go.result c.go.ensures.part (rw c.go.ensures.nest c.requires)

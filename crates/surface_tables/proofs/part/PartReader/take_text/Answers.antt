@@ -1,0 +1,11 @@
+-- The token was taken, and what is left is settled.
+use Rattle.std.proofs.Common.{◌≡◌, ◌∷◌, List, refl}
+use Rattle.brep_tokens.specs.declared.text.Token.{Token}
+use Rattle.surface_tables.specs.PartLeft.{at_stage}
+use Rattle.surface_tables.specs.declared.part.Stage.TheVariants as stages
+use Rattle.surface_tables.proofs.Settling.{steps_settled}
+use Rattle.surface_tables.proofs.part.PartReader.take_text.Goals as goal
+
+pub returns-in-Ok-clause-part : goal.returns-in-Ok-clause-part
+returns-in-Ok-clause-part c =
+    steps_settled (at_stage (stages.Texts c.args.form) c.args.self.now) _ c.args.t.now (λ rest. rw (c.in-Ok.ensures rest) refl) c.past_texts.new.self c.past_texts.result c.past_texts.ensures.part (rw c.past_texts.ensures.nest c.requires.nested)

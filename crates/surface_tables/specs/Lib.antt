@@ -1,0 +1,13 @@
+pub mod Frames
+pub mod Counts
+pub mod Bodies
+pub mod Headers
+pub mod Surfaces
+pub mod HeaderLeft
+pub mod PartLeft
+pub mod Left
+pub mod Spelling
+pub mod Sound
+pub mod Shapes
+pub mod Laws
+pub mod SpellLeft

@@ -1,0 +1,112 @@
+//! The reader of a surface.
+ghost use Rattle.std.specs.Prelude.{◌≡◌, ◌<◌, Err, IfOk, List, None, Ok, []};
+ghost use Rattle.brep_tokens.specs.declared.text.Token.{Token};
+ghost use Rattle.entry_readers.specs.Reading.{more};
+ghost use Rattle.entry_readers.specs.Takes.{Takes};
+ghost use Rattle.surface_tables.specs.Left.{Closes, IsDone, IsWaiting, closing, surface_left};
+ghost use Rattle.surface_tables.specs.Surfaces.{surface_at};
+
+use crate::part::PartReader;
+use crate::parts::{Frames, Part};
+use crate::surface::{Surface, framed};
+use brep_tokens::{Progress, ReadStop, Token};
+use entry_readers::EntryReader;
+use std::alloc::{AllocError, Global};
+
+/// Takes the tokens of an entry of the section `Surfaces`.
+#[derive(Drop)]
+pub struct SurfaceReader {
+    frames: Frames,
+    part: PartReader,
+    whole: Option<Surface>,
+    alloc: Global,
+}
+
+impl SurfaceReader {
+    /// No token was taken yet.
+    pub fn new(alloc: Global) -> SurfaceReader
+        ensures left { (ts : List Token) → surface_left result ts ≡ surface_at ts }
+        ensures waits { IsWaiting result }
+        ensures open { surface_left result [] ≡ Err more }
+    {
+        SurfaceReader {
+            frames: Frames::new(alloc),
+            part: PartReader::new(alloc, 0),
+            whole: None,
+            alloc,
+        }
+    }
+
+    /// A part is whole: the surface is whole with it, or goes on inside the frame.
+    fn close(&mut self, part: Part) -> Result<Progress, AllocError>
+        requires nested { self.old.part.nest < 64 }
+        requires none { self.old.whole ≡ None }
+        ensures { IfOk result (λ p. Closes (closing self.old part) self.new p) }
+    {
+        match part {
+            Part::Leaf(surface) => {
+                self.whole = Some(framed(self.alloc, &mut self.frames, surface)?);
+                Ok(Progress::Whole)
+            }
+            Part::Open(frame) => {
+                self.frames.push(frame)?;
+                self.part = PartReader::new(self.alloc, self.part.nest + 1);
+                Ok(Progress::More)
+            }
+        }
+    }
+
+    /// Takes a token: it is the first one that isn't accepted, or more are due, or the surface is whole with it.
+    pub fn take(&mut self, t: &Token) -> Result<Progress, ReadStop>
+        requires { IsWaiting self.old }
+        ensures { Takes (surface_left self.old) t.now (surface_left self.new) (IsWaiting self.new) (IsDone self.new) result }
+    {
+        match self.part.take(t) {
+            Err(e) => Err(e),
+            Ok(None) => Ok(Progress::More),
+            Ok(Some(part)) => match self.close(part) {
+                Err(_) => Err(ReadStop::NoMemory),
+                Ok(progress) => Ok(progress),
+            },
+        }
+    }
+
+    /// The surface.
+    pub fn done(self) -> Surface
+        requires { IsDone self }
+        ensures { (rest : List Token) → surface_left self rest ≡ Ok (result, rest) }
+    {
+        let SurfaceReader { whole, .. } = self;
+        match whole {
+            Some(surface) => surface,
+            None => unreachable!(),
+        }
+    }
+}
+
+impl EntryReader for SurfaceReader {
+    type Entry = Surface;
+
+    ghost use Rattle.surface_tables.specs.Left.{IsDone, IsWaiting, surface_left};
+    ghost use Rattle.surface_tables.specs.Surfaces.{surface_at};
+
+    ghost read = { surface_at };
+
+    ghost left = { surface_left };
+
+    ghost waits = { IsWaiting };
+
+    ghost whole = { IsDone };
+
+    fn begin(alloc: Global) -> SurfaceReader {
+        SurfaceReader::new(alloc)
+    }
+
+    fn take_token(&mut self, t: &Token) -> Result<Progress, ReadStop> {
+        self.take(t)
+    }
+
+    fn finish(self) -> Surface {
+        self.done()
+    }
+}
