@@ -2,8 +2,7 @@
 ghost use Rattle.curve_tables.specs.Laws.{CurvesAreExact};
 ghost use Rattle.curve_tables.specs.Parts.{ChainsAreExact};
 
-use entry_readers::laws::fields_are_decimals;
-use entry_readers::laws::fields_are_exact;
+use entry_readers::laws::{fields_are_decimals, fields_are_exact};
 
 /// A curve in its frames is read exactly as it is spelled.
 fn chains_are_exact()

@@ -2,8 +2,7 @@
 ghost use Rattle.surface_tables.specs.Laws.{SurfacesAreExact};
 
 use curve_tables::laws::curves_are_exact;
-use entry_readers::laws::fields_are_decimals;
-use entry_readers::laws::fields_are_exact;
+use entry_readers::laws::{fields_are_decimals, fields_are_exact};
 
 /// A surface is read exactly as it is spelled.
 pub fn surfaces_are_exact()
