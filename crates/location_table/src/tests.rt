@@ -1,6 +1,4 @@
 //! Sections that were written by hand.
-ghost use Rattle.std.specs.Prelude.{IsTrue};
-ghost use Rattle.entry_readers.specs.Spelled.{AreShort};
 
 use crate::{Factor, Factors, LocationEntry, LocationReader, Locations, LocationsReader, laws};
 use brep_tokens::{Decimals, Progress, ReadCode, ReadFault, ReadStop, Token, TokenText};
@@ -49,8 +47,9 @@ fn read(alloc: Global, count: u64, text: &str) -> Result<Locations, Failure> {
 /// The words of all places, from the place 0.
 fn words(alloc: Global, section: &Locations) -> Result<String, AllocError> {
     let mut text = String::new(alloc);
-    for k in 0..section.len() + 1 {
-        for pair in section.word(k).pairs() {
+    let last = u64::from(section.len());
+    for k in 0..=last {
+        for pair in section.word(k as u32).pairs() {
             text.push_str(format!(in alloc; "{}^{} ", pair.datum, pair.power)?.as_str())?;
         }
         text.push_str("; ")?;
@@ -206,32 +205,14 @@ fn long_words(rt: HostRuntime) -> Result<(), Fail> {
     Ok(())
 }
 
-/// Has each decimal at most 128 bytes?
-fn short(texts: &Decimals) -> bool
-    ensures { IsTrue result → AreShort texts.now }
-{
-    for at in 0..texts.len() {
-        match texts.get(at) {
-            Some(text) => if text.len() > 128 {
-                return false;
-            },
-            None => return false,
-        }
-    }
-    true
-}
-
-/// The tokens of an entry, with one space between them.
+/// The tokens of a product, with one space between them.
 fn spelled(alloc: Global, entry: &LocationEntry) -> Result<String, AllocError> {
     let mut text = String::new(alloc);
-    if let LocationEntry::Datum(texts) = entry {
-        if !short(texts) {
-            return Ok(text);
+    if let LocationEntry::Product(_) = entry {
+        for word in entry.spell() {
+            text.push_str(str::from_utf8(word.bytes()).unwrap_or("?"))?;
+            text.push_str(" ")?;
         }
-    }
-    for word in entry.spell() {
-        text.push_str(str::from_utf8(word.bytes()).unwrap_or("?"))?;
-        text.push_str(" ")?;
     }
     Ok(text)
 }
@@ -246,7 +227,7 @@ fn spelled_again(rt: HostRuntime) -> Result<(), Fail> {
             for entry in section.as_slice() {
                 again.push_str(spelled(rt.alloc(), entry)?.as_str())?;
             }
-            let want = format!(in rt.alloc(); "{text} ")?;
+            let want = format!(in rt.alloc(); "{product}2 0 ")?;
             assert_eq!(rt; again.as_str(), want.as_str());
             assert_eq!(rt; section.datums(), 2);
             assert!(rt; !section.is_empty());
