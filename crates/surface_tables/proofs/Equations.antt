@@ -24,6 +24,11 @@ module _ (texts : List (List ℕ)) (s : Surface) where
   can_spell_basis Trimmed can = can
   can_spell_basis Offset can = can
 
+  pub can_spell_around : (w : Wrap) → CanSpellWrapped w texts → CanSpellSurface s → CanSpellSurface (wrapped w texts s)
+  unfolding Rattle.surface_tables.specs.declared.surface.Surface.TheBlock.hidden-the_row-Surface-0 denote.Hole.Carrier.hidden
+  can_spell_around Trimmed wraps can = (wraps, can)
+  can_spell_around Offset wraps can = (wraps, can)
+
   pub sound_around : (nest : ℕ) (w : Wrap) → IsWrapped nest w texts → IsSoundIn (suc nest) s → IsSoundIn nest (wrapped w texts s)
   unfolding Rattle.surface_tables.specs.declared.surface.Surface.TheBlock.hidden-the_row-Surface-0 denote.Hole.Carrier.hidden
   sound_around nest Trimmed wraps is = (wraps, is)

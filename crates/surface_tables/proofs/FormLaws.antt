@@ -2,7 +2,6 @@
 use Rattle.std.proofs.Common.{◌≡◌, ℕ, suc, ◌≤◌, List, [], ◌∷◌, ◌++◌, length, sym, arith}
 use Rattle.std.specs.List.{AllByRecursion}
 use Rattle.std.specs.Fmt.{decimal}
-use Rattle.brep_tokens.specs.Forms.{flag_text}
 use Rattle.entry_readers.specs.Begins.{IsDecimal, IsSmall, zipped}
 use Rattle.entry_readers.specs.FieldForms.{FieldsAreDecimals}
 use Rattle.entry_readers.specs.Spelled.{AreShort}

@@ -1,10 +1,10 @@
 -- The numbers in front of a surface's decimals are read exactly as they are spelled.
 use Rattle.std.proofs.lemmas.Bool.Decides.{nat_tests}
-use Rattle.std.proofs.Common.{◌≡◌, ℕ, ◌+◌, ◌*◌, ◌<◌, ◌≤◌, ◌^◌, Bool, true, if◌then◌else◌, List, [], ◌∷◌, ◌++◌, Ok, Err, refl, sym, ap, subst, ◌∙◌, arith}
+use Rattle.std.proofs.Common.{◌≡◌, ℕ, ◌+◌, ◌*◌, ◌^◌, Bool, true, if◌then◌else◌, List, [], ◌∷◌, Ok, Err, refl, sym, ap, subst, ◌∙◌, arith}
 use Rattle.std.specs.Prelude.{nat_lt}
 use Rattle.std.specs.Fmt.{decimal}
 use Rattle.brep_tokens.specs.Forms.{flag_text}
-use Rattle.entry_readers.specs.Reading.{Refusal, fault, at_token, refused, ◌>>=◌, number_at, flag_at}
+use Rattle.entry_readers.specs.Reading.{fault, at_token, refused, number_at, flag_at}
 use Rattle.entry_readers.specs.Begins.{Begins, IsSmall, FieldsAreExact}
 use Rattle.entry_readers.proofs.Binds.{bind_ok, guard_ok, ok_is, Begins-then, Begins-split}
 use Rattle.brep_tokens.specs.declared.text.Token.{Token}

@@ -1,11 +1,11 @@
 -- A surface inside so many codes.
-use Rattle.std.proofs.Common.{◌≡◌, ℕ, zero, suc, ◌-◌, ◌+◌, ◌<◌, ◌≤◌, List, [], ◌∷◌, ◌++◌, Ok, Err, Result, Option, Some, None, ◌∙◌, refl, ap, sym, arith, true, false, Bool, if◌then◌else◌}
+use Rattle.std.proofs.Common.{◌≡◌, ℕ, zero, suc, ◌-◌, ◌+◌, ◌≤◌, List, [], ◌∷◌, ◌++◌, Ok, Err, None, ◌∙◌, refl, ap, arith, true, false, if◌then◌else◌}
 use Rattle.std.specs.Prelude.{nat_lt}
 use Rattle.std.proofs.lemmas.Bool.Decides.{nat_tests}
-use Rattle.entry_readers.specs.Reading.{Read, Refusal, more, fault, at_token, ◌>>=◌}
+use Rattle.entry_readers.specs.Reading.{Read, more, fault, at_token, ◌>>=◌}
 use Rattle.brep_tokens.specs.declared.text.Token.{Token}
 use Rattle.brep_tokens.specs.declared.fault.ReadCode.TheVariants as codes
-use Rattle.surface_tables.specs.Frames.{framed, framed_by}
+use Rattle.surface_tables.specs.Frames.{framed_by}
 use Rattle.surface_tables.specs.Headers.{code_at}
 use Rattle.surface_tables.specs.Left.{in_frames, inside, rest_of_surface}
 use Rattle.surface_tables.specs.PartLeft.{first_left, part_left}

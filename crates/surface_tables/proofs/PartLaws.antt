@@ -1,7 +1,7 @@
 -- What a code begins is read exactly as it is spelled.
 use Rattle.std.proofs.lemmas.Bool.Decides.{nat_tests}
 use Rattle.std.proofs.lemmas.Bool.{eqb-true}
-use Rattle.std.proofs.Common.{◌⊎◌, inl, inr, ◌≡◌, ℕ, suc, ◌+◌, ◌*◌, ◌<◌, ◌≤◌, ◌==◌, Bool, true, false, if◌then◌else◌, List, [], ◌∷◌, ◌++◌, length, Ok, refl, sym, ap, subst, ◌∙◌, append_assoc, arith}
+use Rattle.std.proofs.Common.{◌⊎◌, inl, inr, ◌≡◌, ℕ, suc, ◌*◌, ◌<◌, ◌≤◌, ◌==◌, Bool, true, false, if◌then◌else◌, List, [], ◌∷◌, ◌++◌, length, Ok, refl, sym, ap, subst, ◌∙◌, arith}
 use Rattle.std.specs.Fmt.{decimal}
 use Rattle.entry_readers.specs.Reading.{Knots, ◌>>=◌, decimals_at, knots_at}
 use Rattle.entry_readers.specs.Begins.{AreDecimals, AreKnots, Begins, FieldsAreExact, IsSmall, spell_knots, zipped}
@@ -12,26 +12,22 @@ use Rattle.curve_tables.specs.Laws.{CurvesAreExact}
 use Rattle.curve_tables.specs.Sound.{IsSound3}
 use Rattle.curve_tables.specs.Spelling.{spelling3}
 use Rattle.curve_tables.specs.declared.curve3.Curve3.{Curve3}
-use Rattle.surface_tables.specs.Bodies.{bezier_poles, body_of, form_size}
+use Rattle.surface_tables.specs.Bodies.{body_of, form_size}
 use Rattle.surface_tables.specs.Counts.{per_pole, plain_size, swept_size, wrap_size}
-use Rattle.surface_tables.specs.HeaderLeft.{counts_left, flags_of, net_of}
+use Rattle.surface_tables.specs.HeaderLeft.{net_of}
 use Rattle.surface_tables.specs.Headers.{bezier_at, is_code, spline_at}
-use Rattle.surface_tables.specs.Sound.{AreKnotsOf, AreNumbers, IsBSpline, IsBezier, IsPlain, IsSoundIn, IsSwept, IsWrapped}
+use Rattle.surface_tables.specs.Sound.{AreKnotsOf, AreNumbers, IsBSpline, IsBezier, IsSoundIn, IsWrapped}
 use Rattle.surface_tables.specs.Spelling.{spell_surface}
-use Rattle.surface_tables.specs.Surfaces.{after_texts, body_at, net_surface, part_at}
-use Rattle.surface_tables.specs.declared.header.SplineCounts.TheVariants as counts
-use Rattle.surface_tables.specs.declared.parts.Body.{Body}
-use Rattle.surface_tables.specs.declared.parts.Form.{Form}
+use Rattle.surface_tables.specs.Surfaces.{body_at, net_surface, part_at}
 use Rattle.surface_tables.specs.declared.parts.Form.TheVariants as forms
 use Rattle.surface_tables.specs.declared.parts.Part.{Part}
 use Rattle.surface_tables.specs.declared.parts.Part.TheVariants as parts
 use Rattle.surface_tables.specs.declared.parts.Wrap.{Wrap}
 use Rattle.surface_tables.specs.declared.parts.Wrap.TheVariants.{Trimmed, Offset}
-use Rattle.surface_tables.specs.declared.surface.Surface.{Surface}
 use Rattle.surface_tables.specs.declared.surface.SurfaceFlags.{SurfaceFlags}
 use Rattle.surface_tables.specs.declared.surface.Surface.TheVariants as surfaces
 use Rattle.surface_tables.proofs.Equations.{wrap_code}
-use Rattle.surface_tables.proofs.HeaderLaws.{BezierRead, CountsRead, FlagsRead, bezier_again, bezier_takes, bezier_texts, count_texts, counts_again, counts_take, flag_texts, flags_again, flags_take}
+use Rattle.surface_tables.proofs.HeaderLaws.{bezier_again, bezier_takes, bezier_texts, count_texts, counts_again, counts_take, flag_texts, flags_again, flags_take}
 
 -- ---- what a part is that was read after its code: a sound surface with its spelling, or the front of a sound frame
 

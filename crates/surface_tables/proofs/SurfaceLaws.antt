@@ -1,5 +1,5 @@
 -- A surface is read exactly as it is spelled.
-use Rattle.std.proofs.Common.{◌≡◌, ℕ, zero, suc, ◌+◌, ◌-◌, ◌<◌, ◌≤◌, true, List, [], ◌∷◌, ◌++◌, length, Result, Ok, Err, refl, sym, ap, subst, ◌∙◌, append_assoc, arith}
+use Rattle.std.proofs.Common.{◌≡◌, ℕ, zero, suc, ◌+◌, ◌-◌, true, List, [], ◌∷◌, ◌++◌, length, Result, Ok, Err, refl, sym, ap, subst, ◌∙◌, arith}
 use Rattle.std.specs.Fmt.{decimal}
 use Rattle.entry_readers.specs.Reading.{Refusal, fault, at_token, ◌>>=◌}
 use Rattle.entry_readers.specs.Begins.{Begins, FieldsAreExact, IsExact, IsSmall, zipped}
@@ -13,7 +13,6 @@ use Rattle.surface_tables.specs.Headers.{code_at, is_code}
 use Rattle.surface_tables.specs.Sound.{IsSoundIn, IsSoundSurface, IsWrapped}
 use Rattle.surface_tables.specs.Spelling.{spell_surface}
 use Rattle.surface_tables.specs.Surfaces.{closed, part_at, surface_at, surface_in}
-use Rattle.surface_tables.specs.declared.parts.Frame.{Frame}
 use Rattle.surface_tables.specs.declared.parts.Part.{Part}
 use Rattle.surface_tables.specs.declared.parts.Part.TheVariants as parts
 use Rattle.surface_tables.specs.declared.parts.Wrap.{Wrap}

@@ -1,5 +1,5 @@
 -- Where a token is due, nothing is read from no tokens.
-use Rattle.std.proofs.Common.{◌≡◌, ℕ, zero, suc, ◌+◌, ◌<◌, Bool, true, false, if◌then◌else◌, List, [], ◌∷◌, Err, refl, arith}
+use Rattle.std.proofs.Common.{◌≡◌, ℕ, zero, suc, ◌<◌, true, false, if◌then◌else◌, List, [], Err, refl, arith}
 use Rattle.entry_readers.specs.Reading.{more, decimals_from, knots_from, Knots}
 use Rattle.entry_readers.specs.Left.{knots_left, half_knot}
 use Rattle.entry_readers.specs.declared.knots_due.KnotsDue.{KnotsDue}

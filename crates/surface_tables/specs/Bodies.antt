@@ -1,11 +1,10 @@
 -- What the numbers of a surface say of its decimals.
-use Rattle.std.specs.Prelude.{ℕ, ◌+◌, ◌*◌, Bool}
+use Rattle.std.specs.Prelude.{ℕ, ◌+◌, ◌*◌}
 use Rattle.surface_tables.specs.Counts.{per_pole, plain_size, swept_size, wrap_size}
 use Rattle.surface_tables.specs.declared.parts.Body.{Body}
 use Rattle.surface_tables.specs.declared.parts.Form.{Form}
 use Rattle.surface_tables.specs.declared.parts.Form.TheVariants as forms
 use Rattle.surface_tables.specs.declared.parts.Net.{Net}
-use Rattle.surface_tables.specs.declared.parts.Wrap.{Wrap}
 
 -- the poles of a Bezier surface are one more than the degree in each direction
 abbrev pub bezier_poles : ℕ → ℕ → ℕ

@@ -1,12 +1,11 @@
 -- Reading the code of a surface and the numbers in front of its decimals.
-use Rattle.std.specs.Prelude.{ℕ, ◌+◌, ◌*◌, ◌^◌, ◌&&◌, nat_le, nat_lt, Bool, if◌then◌else◌, List, [], ◌∷◌, Ok, Err}
+use Rattle.std.specs.Prelude.{ℕ, ◌*◌, ◌^◌, ◌&&◌, nat_le, nat_lt, Bool, if◌then◌else◌, List, [], ◌∷◌, Ok, Err}
 use Rattle.entry_readers.specs.Reading.{Read, more, fault, at_token, refused, ◌>>=◌, flag_at, number_at}
 use Rattle.brep_tokens.specs.declared.text.Token.{Token}
 use Rattle.brep_tokens.specs.declared.fault.ReadCode.TheVariants as codes
-use Rattle.surface_tables.specs.Bodies.{bezier_poles, body_of, net_poles}
+use Rattle.surface_tables.specs.Bodies.{bezier_poles, body_of}
 use Rattle.surface_tables.specs.declared.parts.Body.{Body}
 use Rattle.surface_tables.specs.declared.parts.Form.TheVariants as forms
-use Rattle.surface_tables.specs.declared.parts.Net.{Net}
 
 abbrev pub is_code : ℕ → Bool
 is_code n = nat_le 1 n && nat_le n 11

@@ -1,5 +1,5 @@
 -- Which surfaces can be spelled: the well shaped ones, whose decimals fit tokens.
-use Rattle.std.specs.Prelude.{◌≡◌, ◌≤◌, ℕ, ◌*◌, Bool, List, length}
+use Rattle.std.specs.Prelude.{◌≤◌, ℕ, ◌*◌, Bool, List, length}
 use Rattle.curve_tables.specs.Shapes.{AreTexts, CanSpell3}
 use Rattle.curve_tables.specs.declared.curve3.Curve3.{Curve3}
 use Rattle.surface_tables.specs.Bodies.{bezier_poles}

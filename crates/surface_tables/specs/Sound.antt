@@ -1,5 +1,5 @@
 -- Which surfaces a file can hold.
-use Rattle.std.specs.Prelude.{◌≡◌, ◌<◌, ◌≤◌, ℕ, suc, ◌*◌, Bool, List, length}
+use Rattle.std.specs.Prelude.{◌<◌, ◌≤◌, ℕ, suc, ◌*◌, Bool, List, length}
 use Rattle.entry_readers.specs.Begins.{AreDecimals, AreKnots, IsSmall}
 use Rattle.curve_tables.specs.Sound.{IsSound3}
 use Rattle.curve_tables.specs.declared.curve3.Curve3.{Curve3}

@@ -1,4 +1,4 @@
-use Rattle.std.proofs.Common.{◌≡◌, ℕ, length}
+use Rattle.std.proofs.Common.{◌≡◌, length}
 use Rattle.surface_tables.specs.Frames.{framed}
 use Rattle.surface_tables.proofs.surface.framed.Given as goal
 

@@ -1,6 +1,5 @@
 -- The token was taken, and what is left is settled.
-use Rattle.std.proofs.Common.{◌≡◌, ◌∷◌, List, refl}
-use Rattle.brep_tokens.specs.declared.text.Token.{Token}
+use Rattle.std.proofs.Common.{refl}
 use Rattle.surface_tables.specs.PartLeft.{at_stage}
 use Rattle.surface_tables.specs.declared.part.Stage.TheVariants as stages
 use Rattle.surface_tables.proofs.Settling.{steps_settled}

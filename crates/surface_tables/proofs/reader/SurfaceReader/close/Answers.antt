@@ -1,5 +1,5 @@
 -- The frame is the innermost, and a code is due in it.
-use Rattle.std.proofs.Common.{◌≡◌, ◌+◌, ◌-◌, ◌≤◌, ap, sym, ◌∙◌, [], arith}
+use Rattle.std.proofs.Common.{◌+◌, ◌-◌, ◌≤◌, ap, sym, ◌∙◌, [], arith}
 use Rattle.surface_tables.specs.Left.{closing, in_frames, rest_of_surface}
 use Rattle.surface_tables.specs.Surfaces.{surface_in}
 use Rattle.surface_tables.proofs.Nesting.{begun, deeper, none_read}

@@ -1,5 +1,5 @@
 -- No code is open yet, and no frame.
-use Rattle.std.proofs.Common.{◌≡◌, ap, ◌∙◌, arith}
+use Rattle.std.proofs.Common.{ap, ◌∙◌, arith}
 use Rattle.surface_tables.specs.Left.{in_frames}
 use Rattle.surface_tables.specs.Surfaces.{surface_in}
 use Rattle.surface_tables.proofs.Nesting.{begun, no_frames}
