@@ -1,6 +1,6 @@
 #!/usr/bin/env bash
-# Times the copy of a large file beside plain tools, in one run: a million vertices in one compound, about 60 MB. Then it times a rewrite
-# that removes 10,000 shapes of a file of 200,000 records beside the copy of that file.
+# Times the copy of a large file beside plain tools, in one run: a million vertices in one compound, about 60 MB. Then it times the copy of
+# a mesh of nine million tokens, and a rewrite that removes 10,000 shapes of a file of 200,000 records beside the copy of that file.
 # By hand, not in the gate. usage: scripts/bench.sh [VERTICES]
 set -euo pipefail
 here=$(cd "$(dirname "$0")/.." && pwd)
@@ -46,6 +46,30 @@ printf '%-22s %12s s wall, %s s of processor\n' 'brep copy' "$copy_wall" "$copy_
 awk -v copy="$copy_wall" -v words="$words_wall" -v cat="$cat_wall" -v memory="$copy_memory" -v bytes="$bytes" 'BEGIN {
     printf "%-22s %12.2f\n%-22s %12.2f\n", "copy / wc -w", copy / (words > 0 ? words : 0.01), "copy / cat", copy / (cat > 0 ? cat : 0.01)
     printf "%-22s %12.2f\n", "peak memory / bytes", memory * 1024 / bytes
+}'
+
+# One mesh of 1,500,000 nodes and as many triangles, on a line as it is written, and one vertex.
+awk -v n=1500000 'BEGIN {
+    print "CASCADE Topology V1, (c) Matra-Datavision"
+    print "Locations 0\nCurve2ds 0\nCurves 0\nPolygon3D 0\nPolygonOnTriangulations 0\nSurfaces 0\nTriangulations 1"
+    printf "%d %d 0 0.1", n, n
+    for (i = 0; i < n; i++) printf " %d.5 %d.25 -%d", i % 100, i % 97, i % 91
+    for (i = 0; i < n; i++) printf " %d %d %d", i % n + 1, (i + 1) % n + 1, (i + 2) % n + 1
+    print "\nTShapes 1\nVe\n1e-07\n0 0 0\n0 0\n\n0101101\n*\n+1 0"
+}' >"$work/mesh.brep"
+plain_words=$(LC_ALL=C wc -w <"$work/in.brep")
+mesh_words=$(LC_ALL=C wc -w <"$work/mesh.brep")
+mesh_bytes=$(stat -c %s "$work/mesh.brep")
+read -r mesh_wall mesh_cpu mesh_memory <<<"$(measure "$here/build/brep" copy "$work/mesh.brep" "$work/out.brep")"
+cmp "$work/mesh.brep" "$work/out.brep"
+
+echo
+printf '%-22s %12s\n' 'mesh bytes' "$mesh_bytes" 'mesh tokens' "$mesh_words"
+printf '%-22s %12s s wall, %s s of processor\n' 'brep copy of the mesh' "$mesh_wall" "$mesh_cpu"
+awk -v mesh="$mesh_wall" -v copy="$copy_wall" -v mw="$mesh_words" -v pw="$plain_words" -v mb="$mesh_bytes" -v pb="$bytes" -v memory="$mesh_memory" 'BEGIN {
+    printf "%-22s %12.2f\n", "a token / plain copy", (mesh / mw) / (copy / pw)
+    printf "%-22s %12.2f\n", "a byte / plain copy", (mesh / mb) / (copy / pb)
+    printf "%-22s %12.2f\n", "peak memory / bytes", memory * 1024 / mb
 }'
 
 # Every twentieth record goes. The compound is number 1, so the vertices have the numbers from 2 on.

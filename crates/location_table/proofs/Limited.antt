@@ -1,15 +1,14 @@
 -- The limit that a power passes.
-use Rattle.std.proofs.Common.{◌≡◌, ℕ, ℤ, Bool, true, false, if◌then◌else◌, List, length, Option, Some, None, refl, ap, sym, ◌∙◌, arith}
+use Rattle.std.proofs.Common.{◌≡◌, ℕ, ℤ, true, false, List, Option, Some, refl, ap, arith}
 use Rattle.std.specs.Prelude.{min, ◌<◌, ◌^◌, ◌-◌, nat_abs}
 use Rattle.std.specs.Option.{option_map, option_or}
-use Rattle.std.proofs.lemmas.Bool.Decides.{nat_tests}
 use Rattle.brep_tokens.specs.declared.text.Token.{Token}
 use Rattle.location_words.specs.declared.pair.Pair.{Pair}
 use Rattle.location_words.specs.declared.fault.WordFault.{WordFault}
 use Rattle.location_words.specs.declared.fault.WordFault.TheVariants.{Pairs, Power, NoMemory}
 use Rattle.location_words.specs.Pairs.{mul, power}
 use Rattle.location_words.specs.Faults.{fault_of, fault_of_power, IsDueFault}
-use Rattle.location_table.specs.Limits.{Passed, limit_of, has_many_factors, most_factors, passed}
+use Rattle.location_table.specs.Limits.{limit_of, has_many_factors, most_factors, passed}
 use Rattle.brep_tokens.specs.declared.fault.ReadCode.TheVariants as codes
 use Rattle.entry_readers.specs.Reading.{at_token}
 use Rattle.location_table.specs.Locations.{limit_fault}

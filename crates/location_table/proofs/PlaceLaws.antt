@@ -1,19 +1,19 @@
 -- The words of the places of a section.
-use Rattle.std.proofs.Common.{◌≡◌, ℕ, zero, suc, ℤ, pos, negsuc, ◌+◌, ◌<◌, ◌≤◌, ◌==◌, ◌+ℤ◌, Bool, true, false, if◌then◌else◌, All, List, [], ◌∷◌, ◌++◌, length, map, reverse, fold, slice_index_or, refl, ap, sym, subst, ◌∙◌, append_assoc, append-nil, arith, length-append}
+use Rattle.std.proofs.Common.{◌≡◌, ℕ, zero, suc, ℤ, pos, negsuc, ◌+◌, ◌≤◌, ◌==◌, ◌+ℤ◌, Bool, true, false, if◌then◌else◌, List, [], ◌∷◌, ◌++◌, length, map, reverse, fold, refl, ap, sym, subst, ◌∙◌, append_assoc, append-nil, arith, length-append}
 use Rattle.std.specs.Prelude.{nat_abs}
 use Rattle.std.specs.List.{AllByRecursion}
 use Rattle.std.proofs.lemmas.List.Elements.{All-nil, All-cons}
 use Rattle.std.proofs.lemmas.List.Sums.{fold-append}
 use Rattle.location_words.specs.declared.pair.Pair.{Pair}
-use Rattle.location_words.specs.Pairs.{factor as factor_of, inverse, is_zero, most_power, mul, norm, opposite, pair, power, taken_onto, times, IsHeldWord}
+use Rattle.location_words.specs.Pairs.{factor as factor_of, inverse, is_zero, most_power, mul, norm, opposite, pair, power, taken_onto, times}
 use Rattle.location_words.specs.Laws.{WordsAreAGroup}
 use Rattle.location_words.proofs.WordLaws.{reverse-cons}
 use Rattle.location_table.specs.declared.entry.Factor.{Factor}
 use Rattle.location_table.specs.declared.entry.LocationEntry.{LocationEntry}
 use Rattle.location_table.specs.declared.entry.LocationEntry.TheVariants.{Datum, Product}
 use Rattle.location_table.specs.Words.{at_place, datum_word, datums_of, identity_alone, places_of, with_entry, with_factor, word_of_factors, words_of, Places}
-use Rattle.location_table.specs.Limits.{AreWithin, IsWithin}
-use Rattle.location_table.specs.Locations.{AreSoundAfter, AreSoundLocations, IsSoundLocation}
+use Rattle.location_table.specs.Limits.{AreWithin}
+use Rattle.location_table.specs.Locations.{AreSoundAfter, IsSoundLocation}
 use Rattle.location_table.specs.Written.{IsOver, IsWordOver}
 use Rattle.location_table.specs.Laws.{PlacesHaveWords}
 use Rattle.location_table.proofs.LimitLaws.{held_of_none}

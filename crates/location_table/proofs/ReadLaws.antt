@@ -1,7 +1,7 @@
 -- A location is read exactly as it is spelled.
-use Rattle.std.proofs.Common.{◌≡◌, ℕ, zero, suc, ℤ, ◌<◌, ◌≤◌, ◌==◌, ◌||◌, ◌⊎◌, inl, inr, Bool, true, false, if◌then◌else◌, List, [], ◌∷◌, ◌++◌, length, Option, Some, None, Ok, Err, refl, sym, ap, subst, ◌∙◌, append_assoc, append-nil, arith}
+use Rattle.std.proofs.Common.{◌≡◌, ℕ, ℤ, ◌<◌, ◌≤◌, ◌==◌, ◌||◌, ◌⊎◌, inl, inr, true, false, if◌then◌else◌, List, [], ◌∷◌, ◌++◌, length, Option, Some, None, Ok, Err, refl, sym, ap, subst, ◌∙◌, append_assoc, append-nil, arith}
 use Rattle.std.specs.Prelude.{nat_abs, ◌^◌}
-use Rattle.std.specs.List.{AllByRecursion, flat_map}
+use Rattle.std.specs.List.{AllByRecursion}
 use Rattle.std.specs.Fmt.{decimal, signed_decimal}
 use Rattle.std.proofs.lemmas.Bool.Decides.{nat_tests}
 use Rattle.brep_tokens.specs.Forms.{power_of}
@@ -11,17 +11,17 @@ use Rattle.location_table.specs.Laws.{LocationsAreExact}
 use Rattle.brep_tokens.specs.declared.text.Token.{Token}
 use Rattle.brep_tokens.specs.declared.fault.ReadCode.{ReadCode}
 use Rattle.brep_tokens.specs.declared.fault.ReadCode.TheVariants as codes
-use Rattle.entry_readers.specs.Reading.{Read, fault, ◌>>=◌, at_token, spelled, decimals_at, number_at, ranged_at}
-use Rattle.entry_readers.specs.Begins.{Begins, AreDecimals, IsDecimal, FieldsAreExact, IsExact, IsRanged}
-use Rattle.entry_readers.proofs.Binds.{bind_ok, guard_ok, ok_is, Begins-then, Begins-split}
+use Rattle.entry_readers.specs.Reading.{fault, at_token, spelled, decimals_at, number_at, ranged_at}
+use Rattle.entry_readers.specs.Begins.{Begins, AreDecimals, IsDecimal, FieldsAreExact}
+use Rattle.entry_readers.proofs.Binds.{bind_ok, guard_ok, ok_is}
 use Rattle.location_words.specs.declared.pair.Pair.{Pair}
 use Rattle.location_words.proofs.WordLaws.{by_test}
 use Rattle.location_table.specs.declared.entry.Factor.{Factor}
 use Rattle.location_table.specs.declared.entry.LocationEntry.{LocationEntry}
 use Rattle.location_table.specs.declared.entry.LocationEntry.TheVariants.{Datum, Product}
-use Rattle.location_table.specs.Words.{at_place, with_factor, word_of_factors, words_of}
-use Rattle.location_table.specs.Limits.{Passed, passed, AreWithin, IsWithin}
-use Rattle.location_table.specs.Locations.{code_at, datum_at, factor, factors_from, limit_fault, location_at, power_at, power_from, product_at, signed_at, spell_factor, spell_location, unless_passed, HasForm, IsSoundLocation}
+use Rattle.location_table.specs.Words.{at_place, word_of_factors, words_of}
+use Rattle.location_table.specs.Limits.{Passed, passed, AreWithin}
+use Rattle.location_table.specs.Locations.{code_at, datum_at, factor, factors_from, location_at, power_at, power_from, product_at, signed_at, spell_location, unless_passed, HasForm, IsSoundLocation}
 use Rattle.location_table.specs.Spell.{spell_factors}
 use Rattle.location_table.proofs.LimitLaws.{none_passed, passed_none, PassesNone}
 use Rattle.location_table.proofs.Places.{word_push}

@@ -1,5 +1,5 @@
 -- One more factor is taken.
-use Rattle.std.proofs.Common.{◌≡◌, ℕ, ℤ, ◌≤◌, List, [], ◌∷◌, ◌++◌, length, Option, None, Ok, refl, ap, sym, subst, ◌∙◌}
+use Rattle.std.proofs.Common.{◌≡◌, ℤ, ◌≤◌, List, [], ◌∷◌, ◌++◌, length, None, Ok, refl, sym, subst, ◌∙◌}
 use Rattle.std.specs.Prelude.{◌⊎◌, nat_abs}
 use Rattle.brep_tokens.specs.declared.text.Token.{Token}
 use Rattle.location_words.specs.declared.pair.Pair.{Pair}
@@ -7,7 +7,7 @@ use Rattle.location_words.specs.Pairs.{mul, power}
 use Rattle.location_words.specs.Faults.{fault_of, fault_of_power}
 use Rattle.location_table.specs.declared.entry.Factor.{Factor}
 use Rattle.location_table.specs.declared.entry.LocationEntry.{LocationEntry}
-use Rattle.location_table.specs.Words.{at_place, with_factor, word_of_factors, word_of_place, words_of}
+use Rattle.location_table.specs.Words.{word_of_factors, word_of_place, words_of}
 use Rattle.location_table.specs.Limits.{most_factors, passed, AreWithin}
 use Rattle.location_table.specs.Locations.{factors_from, power_from, signed_at}
 use Rattle.location_table.proofs.Places.{within_push, word_push}

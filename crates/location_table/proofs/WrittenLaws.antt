@@ -1,5 +1,5 @@
 -- Words that are written as products of datums.
-use Rattle.std.proofs.Common.{◌≡◌, ℕ, zero, suc, ℤ, pos, ◌+◌, ◌<◌, ◌≤◌, ◌*ℤ◌, ◌^◌, ◌⊎◌, inl, inr, Bool, true, false, if◌then◌else◌, All, List, [], ◌∷◌, ◌++◌, length, map, reverse, fold, get_or, slice_index_or, Option, None, refl, ap, sym, subst, ◌∙◌, append_assoc, append-nil, arith, length-append}
+use Rattle.std.proofs.Common.{◌≡◌, ℕ, zero, suc, ℤ, pos, ◌+◌, ◌<◌, ◌≤◌, ◌^◌, inl, Bool, true, false, if◌then◌else◌, List, [], ◌∷◌, ◌++◌, length, map, reverse, fold, slice_index_or, None, refl, ap, sym, subst, ◌∙◌, append_assoc, append-nil, arith, length-append}
 use Rattle.std.specs.Prelude.{nat_abs}
 use Rattle.std.specs.List.{AllByRecursion}
 use Rattle.std.proofs.Math.IntN.{one, *ℤ-one, *ℤ_comm}
@@ -8,7 +8,7 @@ use Rattle.std.proofs.lemmas.List.{get_or_append_left, length-map, reverse-appen
 use Rattle.std.proofs.lemmas.List.Elements.{All-nil, All-cons}
 use Rattle.entry_readers.specs.Begins.{AreDecimals}
 use Rattle.location_words.specs.declared.pair.Pair.{Pair}
-use Rattle.location_words.specs.Pairs.{is_zero, most_pairs, most_power, mul, norm, pair, power, AllSmall, IsHeldWord}
+use Rattle.location_words.specs.Pairs.{is_zero, most_power, mul, norm, pair, power, AllSmall, IsHeldWord}
 use Rattle.location_words.specs.Faults.{fault_of, fault_of_power}
 use Rattle.location_words.proofs.WordLaws.{norm-append_right, reduced-of-word, word-of-reduced}
 use Rattle.location_words.proofs.SeamLemmas.{reduced-suffix}
@@ -16,13 +16,13 @@ use Rattle.location_words.proofs.FaultLemmas.{fault-none}
 use Rattle.location_words.proofs.PowerLemmas.{one-power}
 use Rattle.location_table.specs.declared.entry.Factor.{Factor}
 use Rattle.location_table.specs.declared.entry.LocationEntry.{LocationEntry}
-use Rattle.location_table.specs.declared.entry.LocationEntry.TheVariants.{Datum, Product}
-use Rattle.location_table.specs.Words.{at_place, datum_word, datums_of, identity_alone, places_of, with_entry, with_factor, word_of_factors, word_of_place, words_of, Places}
-use Rattle.location_table.specs.Limits.{AreWithin, IsWithin}
+use Rattle.location_table.specs.declared.entry.LocationEntry.TheVariants.{Datum}
+use Rattle.location_table.specs.Words.{at_place, datum_word, datums_of, identity_alone, with_entry, with_factor, word_of_place, words_of, Places}
+use Rattle.location_table.specs.Limits.{AreWithin}
 use Rattle.location_table.specs.Locations.{factor, AreSoundAfter, HasForm, IsSoundLocation}
-use Rattle.location_table.specs.Written.{datum_words, product_of, written_section, IsOver, IsWordOver}
+use Rattle.location_table.specs.Written.{datum_words, product_of, IsOver, IsWordOver}
 use Rattle.location_table.specs.Laws.{WrittenIsHeld}
-use Rattle.location_table.proofs.Places.{datums_append, map_append, places_push}
+use Rattle.location_table.proofs.Places.{datums_append, places_push}
 use Rattle.location_table.proofs.PlaceLaws.{kept, length_is}
 
 -- ---- parts of words

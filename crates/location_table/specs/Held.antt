@@ -1,5 +1,5 @@
 -- A section as it is held: its entries, the words of their places, and the places of its datums.
-use Rattle.std.specs.Prelude.{◌≡◌, ◌≤◌, ℕ, List, [], ◌∷◌, length, map, Option, Some, slice_get}
+use Rattle.std.specs.Prelude.{◌≡◌, ◌≤◌, ℕ, List, [], ◌∷◌, length, map, Some, slice_get}
 use Rattle.location_words.specs.declared.pair.Pair.{Pair}
 use Rattle.location_table.specs.declared.entry.LocationEntry.{LocationEntry}
 use Rattle.location_table.specs.declared.entry.LocationEntry.TheVariants.{Datum, Product}

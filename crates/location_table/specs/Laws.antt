@@ -6,7 +6,7 @@ use Rattle.entry_readers.specs.Begins.{AreDecimals, IsExact}
 use Rattle.location_words.specs.declared.pair.Pair.{Pair}
 use Rattle.location_words.specs.Pairs.{inverse, mul, norm, power}
 use Rattle.location_table.specs.declared.entry.LocationEntry.{LocationEntry}
-use Rattle.location_table.specs.declared.entry.LocationEntry.TheVariants.{Datum, Product}
+use Rattle.location_table.specs.declared.entry.LocationEntry.TheVariants.{Datum}
 use Rattle.location_table.specs.Words.{datums_of, words_of, word_of_place}
 use Rattle.location_table.specs.Locations.{AreSoundLocations, IsSoundLocation, location_at, spell_location}
 use Rattle.location_table.specs.Written.{IsOver, IsWordOver, datum_words, product_of, written_section}

@@ -1,10 +1,8 @@
 -- What the reader of a location has still to read.
-use Rattle.std.specs.Prelude.{◌≡◌, ◌≤◌, ◌<◌, ◌^◌, ℕ, List, [], ◌∷◌, length, Ok}
-use Rattle.std.specs.List.{AllByRecursion}
+use Rattle.std.specs.Prelude.{◌≡◌, ◌≤◌, ◌<◌, List, [], length, Ok}
 use Rattle.brep_tokens.specs.declared.text.Token.{Token}
 use Rattle.entry_readers.specs.Reading.{Read, ◌>>=◌}
 use Rattle.entry_readers.specs.Left.{decimals_left}
-use Rattle.location_words.specs.declared.pair.Pair.{Pair}
 use Rattle.location_table.specs.declared.entry.LocationEntry.{LocationEntry}
 use Rattle.location_table.specs.declared.entry.LocationEntry.TheVariants.{Datum, Product}
 use Rattle.location_table.specs.declared.reader.Stage.{Stage}

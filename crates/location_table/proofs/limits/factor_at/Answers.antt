@@ -1,9 +1,8 @@
 -- The first limit that is passed is told.
-use Rattle.std.proofs.Common.{◌≡◌, to_z, of_z, w64, refl, ap, subst, sym, ◌∙◌}
+use Rattle.std.proofs.Common.{◌≡◌, to_z, of_z, w64, subst, sym, ◌∙◌}
 use Rattle.std.specs.Prelude.{nat_abs}
 use Rattle.std.proofs.lemmas.Int.{to_z-of_z}
 use Rattle.location_table.specs.Limits.{most_factors}
-use Rattle.location_table.specs.Locations.{limit_fault}
 use Rattle.location_table.specs.Stops.{IsDueStop}
 use Rattle.location_table.proofs.Limited.{many, few, limit_small, stops}
 use Rattle.location_table.proofs.limits.factor_at.Goals as goal

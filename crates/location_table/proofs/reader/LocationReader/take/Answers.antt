@@ -1,5 +1,5 @@
 -- Each token is taken at its stage.
-use Rattle.std.proofs.Common.{◌≡◌, sym, subst}
+use Rattle.std.proofs.Common.{sym, subst}
 use Rattle.entry_readers.specs.Takes.{Takes}
 use Rattle.location_table.specs.Left.{at_stage, location_left, IsDone, IsWaiting}
 use Rattle.location_table.proofs.reader.LocationReader.take.Goals as goal

@@ -1,6 +1,6 @@
 -- The section with one more datum.
-use Rattle.std.proofs.Common.{◌≡◌, ◌<◌, ◌+◌, length, sym, subst, refl, ◌∙◌, ap}
-use Rattle.location_table.specs.Held.{most_entries, IsSection}
+use Rattle.std.proofs.Common.{◌<◌, ◌+◌, length, sym, subst, ◌∙◌, ap}
+use Rattle.location_table.specs.Held.{most_entries}
 use Rattle.location_table.specs.Words.{datum_word, datums_of}
 use Rattle.location_table.proofs.Places.{with_datum}
 use Rattle.location_table.proofs.section.Locations.add_datum.Goals as goal

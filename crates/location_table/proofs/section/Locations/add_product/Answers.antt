@@ -1,6 +1,6 @@
 -- The section with one more product.
 use Rattle.std.proofs.Common.{◌≡◌, ◌<◌, length, sym, subst}
-use Rattle.location_table.specs.Held.{most_entries, IsSection}
+use Rattle.location_table.specs.Held.{most_entries}
 use Rattle.location_table.specs.Words.{word_of_factors, words_of}
 use Rattle.location_table.proofs.Places.{with_product}
 use Rattle.location_table.proofs.section.Locations.add_product.Goals as goal

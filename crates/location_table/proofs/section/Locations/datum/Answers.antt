@@ -1,5 +1,5 @@
 -- The place of a datum holds it.
-use Rattle.std.proofs.Common.{◌≡◌, ℕ, List, [], ◌-◌, ◌≤◌, length, Some, refl, sym, ap, subst, ◌∙◌, slice_index_or, ◌<◌, arith}
+use Rattle.std.proofs.Common.{◌≡◌, ℕ, List, ◌-◌, ◌≤◌, length, Some, sym, ap, subst, ◌∙◌, slice_index_or, ◌<◌, arith}
 use Rattle.std.specs.Prelude.{slice_get}
 use Rattle.std.proofs.lemmas.Option.{slice_get_within}
 use Rattle.location_words.specs.declared.pair.Pair.{Pair}

@@ -1,5 +1,5 @@
 -- An entry is whole, and more are due.
-use Rattle.std.proofs.Common.{◌≡◌, List, Ok, Err, ℕ, ◌-◌, ◌+◌, ◌<◌, ◌≤◌, length, [], ◌∷◌, ◌++◌, ap, sym, subst, ◌∙◌, arith, length-append}
+use Rattle.std.proofs.Common.{◌≡◌, List, Ok, Err, ℕ, ◌-◌, ◌+◌, ◌<◌, ◌≤◌, length, [], ◌∷◌, ◌++◌, ap, sym, ◌∙◌, arith, length-append}
 use Rattle.brep_tokens.specs.declared.text.Token.{Token}
 use Rattle.entry_readers.specs.Reading.{more}
 use Rattle.location_table.specs.declared.entry.LocationEntry.{LocationEntry}
