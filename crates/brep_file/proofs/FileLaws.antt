@@ -1,161 +1,333 @@
--- A file's texts are read exactly as they are spelled.
-use Rattle.std.proofs.Common.{◌≡◌, ℕ, ◌<◌, ◌≤◌, ◌^◌, ◌&&◌, leb, inl, inr, true, if◌then◌else◌, List, [], ◌∷◌, ◌++◌, length, Some, None, refl, sym, ap, subst, ◌∙◌, append_assoc, append-nil, arith}
+-- A file's tokens are read exactly as they are spelled.
+use Rattle.std.proofs.Common.{◌≡◌, ℕ, ◌<◌, ◌≤◌, ◌^◌, ◌&&◌, nat_le, List, [], ◌∷◌, ◌++◌, length, Option, Some, None, Ok, refl, sym, ap, subst, ◌∙◌, append_assoc, arith}
 use Rattle.std.specs.Prelude.{codes}
 use Rattle.std.specs.List.{flat_map}
 use Rattle.std.specs.Fmt.{decimal}
 use Rattle.std.proofs.lemmas.Bool.{leb-true, le-leb}
-use Rattle.orientation.specs.Turns.{sign_of}
+use Rattle.brep_tokens.specs.Laws.{FormsAreExact}
+use Rattle.brep_tokens.specs.declared.text.Token.{Token}
+use Rattle.brep_tokens.specs.declared.fault.ReadCode.TheVariants as faults
+use Rattle.entry_readers.specs.Reading.{Read, fault, ◌>>=◌, at_token, ranged_at}
+use Rattle.entry_readers.specs.Begins.{Begins, IsExact, FieldsAreExact}
+use Rattle.entry_readers.proofs.Binds.{bind_ok, guard_ok, ok_is, Begins-then, Begins-split}
+use Rattle.orientation.specs.declared.turn.Turn.{Turn}
+use Rattle.orientation.specs.Laws.{SignsAndNamesTell}
+use Rattle.location_table.specs.Laws.{LocationsAreExact}
+use Rattle.location_table.specs.Locations.{spell_location}
+use Rattle.curve_tables.specs.Curves.{curve2_at, curve3_at}
+use Rattle.curve_tables.specs.Laws.{CurvesAreExact}
+use Rattle.curve_tables.specs.Sound.{IsSound2, IsSound3}
+use Rattle.curve_tables.specs.Spelling.{spelling2, spelling3}
+use Rattle.surface_tables.specs.Laws.{SurfacesAreExact}
+use Rattle.surface_tables.specs.Surfaces.{surface_at}
+use Rattle.surface_tables.specs.Sound.{IsSoundSurface}
+use Rattle.surface_tables.specs.Spelling.{spell_surface}
+use Rattle.mesh_tables.specs.Laws.{MeshesAreExact}
+use Rattle.mesh_tables.specs.Meshes.{polygon_at, polygon_on_at, mesh_at}
+use Rattle.mesh_tables.specs.Sound.{IsSoundPolygon, IsSoundPolygonOn, IsSoundMesh}
+use Rattle.mesh_tables.specs.Spelling.{spell_polygon, spell_polygon_on, spell_mesh}
 use Rattle.expansion_laws.specs.Expansion.{IsNumberOf}
-use Rattle.brep_file.specs.declared.file.FileUse.{FileUse}
-use Rattle.brep_file.specs.declared.file.Record.{Record}
+use Rattle.brep_file.specs.declared.uses.FileUse.{FileUse}
 use Rattle.brep_file.specs.declared.file.File.{File}
-use Rattle.brep_file.specs.Spelling.{spell_use, spell_record, spell_tables, spell_file}
-use Rattle.brep_file.specs.Reads.{IsSpelling}
-use Rattle.brep_file.specs.Fields.{◌>>=◌, token_at, word_at, number_at, use_of}
-use Rattle.brep_file.specs.RecordReading.{Limits, SoFar, nothing_read, records_from, empty_section_at, tables_at, count_at, root_at, is_end, file_at}
-use Rattle.brep_file.proofs.FieldLaws.{bind_some, guard_some, going_on, and_true, same_text, decimal_short, token_takes, token_again, word_takes, word_again, number_takes, number_again, use_takes, use_again}
-use Rattle.brep_file.proofs.UseLaws.{zero_text}
+use Rattle.brep_file.specs.Sound.{Limits, IsSoundTable}
+use Rattle.brep_file.specs.Spelling.{section, spell_use, spell_record, spell_file}
+use Rattle.brep_file.specs.SectionReading.{heading_at, section_at, locations_at}
+use Rattle.brep_file.specs.FileReading.{begun, from_root, from_records, from_meshes, from_surfaces, from_polygons_on, from_polygons, from_curves, from_curve2s, from_locations}
+use Rattle.brep_file.specs.RecordReading.{Bounds, SoFar, nothing_read, records_from, use_of, root_named, root_located, root_at}
+use Rattle.brep_file.proofs.Basics.{and_true, both}
+use Rattle.brep_file.proofs.LocationLaws.{FitLocations, locations_section}
+use Rattle.brep_file.proofs.SectionLaws.{heading_takes, heading_again, section_is_exact}
+use Rattle.brep_file.proofs.UseLaws.{use_text, use_takes, use_again}
 use Rattle.brep_file.proofs.RecordLaws.{FitAll, after_all-records, records_takes, records_again}
-
--- ---- the sections before the records
-
-empty_section_takes : (word : List ℕ) (ts : List (List ℕ)) (x : Unit {0} × List (List ℕ)) → empty_section_at word ts ≡ Some x → ts ≡ word ∷ decimal 0 ∷ x.1
-unfolding empty_section_at
-empty_section_takes word ts x e =
-    let w = bind_some (word_at word ts) (λ w. word_at (codes "0") w.1) x e in
-    going_on (word ∷ []) (word_takes word ts w.0 w.1) (word_takes (codes "0") w.0.1 x w.2 ∙ ap (λ (t : List ℕ). t ∷ x.1) (sym zero_text))
-
-empty_section_again : (word : List ℕ) (rest : List (List ℕ)) → length word ≤ 128 → empty_section_at word (word ∷ decimal 0 ∷ rest) ≡ Some (tt, rest)
-unfolding empty_section_at
-empty_section_again word rest short = rw (zero_text, word_again word (codes "0" ∷ rest) short, word_again (codes "0") rest (omega arith)) refl
-
-pub tables_takes : (ts : List (List ℕ)) (x : Unit {0} × List (List ℕ)) → tables_at ts ≡ Some x → ts ≡ spell_tables ++ x.1
-unfolding tables_at
-tables_takes ts x e =
-    let a = bind_some (empty_section_at (codes "Locations") ts) (λ a. empty_section_at (codes "Curve2ds") a.1 >>= λ b. empty_section_at (codes "Curves") b.1 >>= λ c. empty_section_at (codes "Polygon3D") c.1 >>= λ d. empty_section_at (codes "PolygonOnTriangulations") d.1 >>= λ f. empty_section_at (codes "Surfaces") f.1 >>= λ g. empty_section_at (codes "Triangulations") g.1) x e in
-    let b = bind_some (empty_section_at (codes "Curve2ds") a.0.1) (λ b. empty_section_at (codes "Curves") b.1 >>= λ c. empty_section_at (codes "Polygon3D") c.1 >>= λ d. empty_section_at (codes "PolygonOnTriangulations") d.1 >>= λ f. empty_section_at (codes "Surfaces") f.1 >>= λ g. empty_section_at (codes "Triangulations") g.1) x a.2 in
-    let c = bind_some (empty_section_at (codes "Curves") b.0.1) (λ c. empty_section_at (codes "Polygon3D") c.1 >>= λ d. empty_section_at (codes "PolygonOnTriangulations") d.1 >>= λ f. empty_section_at (codes "Surfaces") f.1 >>= λ g. empty_section_at (codes "Triangulations") g.1) x b.2 in
-    let d = bind_some (empty_section_at (codes "Polygon3D") c.0.1) (λ d. empty_section_at (codes "PolygonOnTriangulations") d.1 >>= λ f. empty_section_at (codes "Surfaces") f.1 >>= λ g. empty_section_at (codes "Triangulations") g.1) x c.2 in
-    let f = bind_some (empty_section_at (codes "PolygonOnTriangulations") d.0.1) (λ f. empty_section_at (codes "Surfaces") f.1 >>= λ g. empty_section_at (codes "Triangulations") g.1) x d.2 in
-    let g = bind_some (empty_section_at (codes "Surfaces") f.0.1) (λ g. empty_section_at (codes "Triangulations") g.1) x f.2 in
-    going_on (codes "Locations" ∷ decimal 0 ∷ []) (empty_section_takes (codes "Locations") ts a.0 a.1)
-    (going_on (codes "Curve2ds" ∷ decimal 0 ∷ []) (empty_section_takes (codes "Curve2ds") a.0.1 b.0 b.1)
-    (going_on (codes "Curves" ∷ decimal 0 ∷ []) (empty_section_takes (codes "Curves") b.0.1 c.0 c.1)
-    (going_on (codes "Polygon3D" ∷ decimal 0 ∷ []) (empty_section_takes (codes "Polygon3D") c.0.1 d.0 d.1)
-    (going_on (codes "PolygonOnTriangulations" ∷ decimal 0 ∷ []) (empty_section_takes (codes "PolygonOnTriangulations") d.0.1 f.0 f.1)
-    (going_on (codes "Surfaces" ∷ decimal 0 ∷ []) (empty_section_takes (codes "Surfaces") f.0.1 g.0 g.1) (empty_section_takes (codes "Triangulations") g.0.1 x g.2))))))
-
--- the tables that follow one another, and then the others
-pub tables_again : (rest : List (List ℕ)) → tables_at (spell_tables ++ rest) ≡ Some (tt, rest)
-unfolding tables_at
-tables_again rest =
-    let r6 = codes "Triangulations" ∷ decimal 0 ∷ rest in
-    let r5 = codes "Surfaces" ∷ decimal 0 ∷ r6 in
-    let r4 = codes "PolygonOnTriangulations" ∷ decimal 0 ∷ r5 in
-    let r3 = codes "Polygon3D" ∷ decimal 0 ∷ r4 in
-    let r2 = codes "Curves" ∷ decimal 0 ∷ r3 in
-    let r1 = codes "Curve2ds" ∷ decimal 0 ∷ r2 in
-    rw (empty_section_again (codes "Locations") r1 (omega arith), empty_section_again (codes "Curve2ds") r2 (omega arith), empty_section_again (codes "Curves") r3 (omega arith), empty_section_again (codes "Polygon3D") r4 (omega arith), empty_section_again (codes "PolygonOnTriangulations") r5 (omega arith), empty_section_again (codes "Surfaces") r6 (omega arith), empty_section_again (codes "Triangulations") rest (omega arith)) refl
-
--- ---- the count of the records
-
-pub count_takes : (most : ℕ) (ts : List (List ℕ)) (x : ℕ × List (List ℕ)) → count_at most ts ≡ Some x → (ts ≡ codes "TShapes" ∷ decimal x.0 ∷ x.1) × (x.0 < 10 ^ 18) × (x.0 ≤ most)
-unfolding count_at
-count_takes most ts x e =
-    let w = bind_some (word_at (codes "TShapes") ts) (λ w. number_at w.1 >>= λ c. if leb c.0 most then Some (c.0, c.1) else None) x e in
-    let c = bind_some (number_at w.0.1) (λ c. if leb c.0 most then Some (c.0, c.1) else None) x w.2 in
-    let g = guard_some (leb c.0.0 most) (c.0.0, c.0.1) x c.2 in
-    let t = number_takes w.0.1 c.0 c.1 in
-    subst (λ (y : ℕ × List (List ℕ)). (ts ≡ codes "TShapes" ∷ decimal y.0 ∷ y.1) × (y.0 < 10 ^ 18) × (y.0 ≤ most)) g.1 (going_on (codes "TShapes" ∷ []) (word_takes (codes "TShapes") ts w.0 w.1) t.0, t.1, leb-true c.0.0 most g.0)
-
-pub count_again : (most n : ℕ) (rest : List (List ℕ)) → n < 10 ^ 18 → n ≤ most → count_at most (codes "TShapes" ∷ decimal n ∷ rest) ≡ Some (n, rest)
-unfolding count_at
-count_again most n rest small within = rw (word_again (codes "TShapes") (decimal n ∷ rest) (omega arith), number_again n rest small, le-leb n most within) refl
 
 -- ---- the root use
 
-pub record FitsRoot (n : ℕ) (u : FileUse) : Type 0 where
+pub record FitsRoot (locations n : ℕ) (u : FileUse) : Type 0 where
   pub named : IsNumberOf n u.number
+  pub location : u.location ≤ locations
   pub small : u.number < 10 ^ 18
-  pub location : u.location ≡ 0
+  pub location_small : u.location < 10 ^ 18
 
-pub root_takes : (n : ℕ) (ts : List (List ℕ)) (x : FileUse × List (List ℕ)) → root_at n ts ≡ Some x → (ts ≡ spell_use x.0 ++ x.1) × FitsRoot n x.0
-unfolding root_at
-root_takes n ts x e =
-    let t = bind_some (token_at ts) (λ t. use_of t.0 >>= λ u. word_at (codes "0") t.1 >>= λ l. if leb 1 u.1 && leb u.1 n then Some (record { turn = u.0; number = u.1; location = 0 }, l.1) else None) x e in
-    let u = bind_some (use_of t.0.0) (λ u. word_at (codes "0") t.0.1 >>= λ l. if leb 1 u.1 && leb u.1 n then Some (record { turn = u.0; number = u.1; location = 0 }, l.1) else None) x t.2 in
-    let l = bind_some (word_at (codes "0") t.0.1) (λ l. if leb 1 u.0.1 && leb u.0.1 n then Some (record { turn = u.0.0; number = u.0.1; location = 0 }, l.1) else None) x u.2 in
-    let made : FileUse × List (List ℕ) = (record { turn = u.0.0; number = u.0.1; location = 0 }, l.0.1) in
-    let g = guard_some (leb 1 u.0.1 && leb u.0.1 n) made x l.2 in
-    let both = and_true (leb 1 u.0.1) (leb u.0.1 n) g.0 in
-    let s = use_takes t.0.0 u.0 u.1 in
-    let text : ts ≡ spell_use made.0 ++ made.1 =
-    going_on (t.0.0 ∷ []) (token_takes ts t.0 t.1).0 (word_takes (codes "0") t.0.1 l.0 l.1 ∙ ap (λ (w : List ℕ). w ∷ l.0.1) (sym zero_text))
-    ∙ ap (λ (w : List ℕ). w ∷ decimal 0 ∷ l.0.1) s.0 in
-    subst (λ (y : FileUse × List (List ℕ)). (ts ≡ spell_use y.0 ++ y.1) × FitsRoot n y.0) g.1
-    (text, record { named = (leb-true 1 u.0.1 both.0, leb-true u.0.1 n both.1); small = s.1; location = refl })
+module _ (forms : FormsAreExact) (fields : FieldsAreExact) (locations n : ℕ) where
+  named_takes : (t : Token) (o : Option (Turn × ℕ)) → use_of t.text ≡ o → (u : Turn × ℕ) → root_named n t o ≡ Ok u → (t.text ≡ use_text u.0 u.1) × (u.1 < 10 ^ 18) × IsNumberOf n u.1
+  named_takes t None is u e = absurd cc
+  named_takes t (Some s) is u e =
+      let g = guard_ok (nat_le 1 s.1 && nat_le s.1 n) (fault (at_token faults.IndexOutOfRange s.1 n t)) s u e in
+      let ends = and_true (nat_le 1 s.1) (nat_le s.1 n) g.0 in
+      let text = use_takes forms t.text s.0 s.1 is in
+      subst (λ (v : Turn × ℕ). (t.text ≡ use_text v.0 v.1) × (v.1 < 10 ^ 18) × IsNumberOf n v.1) g.1 (text.0, text.1, (leb-true 1 s.1 ends.0, leb-true s.1 n ends.1))
 
-pub root_again : (n : ℕ) (u : FileUse) (rest : List (List ℕ)) → FitsRoot n u → root_at n (spell_use u ++ rest) ≡ Some (u, rest)
-unfolding root_at
-root_again n u rest is =
-    let short : length (sign_of u.turn ∷ decimal u.number) ≤ 128 = omega (arith, decimal_short u.number is.small) in
-    rw (token_again (sign_of u.turn ∷ decimal u.number) (decimal u.location ∷ rest) short, is.location, zero_text, use_again u.turn u.number is.small, word_again (codes "0") rest (omega arith), le-leb 1 u.number is.named.0, le-leb u.number n is.named.1) refl
+  located_takes : (u : Turn × ℕ) (ts rest : List Token) (x : FileUse) → u.1 < 10 ^ 18 → IsNumberOf n u.1 → root_located locations u ts ≡ Ok (x, rest)
+      → (x.turn ≡ u.0) × (x.number ≡ u.1) × Begins ts (decimal x.location ∷ []) rest × FitsRoot locations n x
+  located_takes u [] rest x small is e = absurd cc
+  located_takes u (t ∷ ts) rest x small is e =
+      let l = bind_ok (ranged_at 0 locations (t ∷ ts)) (λ l. Ok (record { turn = u.0; number = u.1; location = l.0 }, ts)) (x, rest) e in
+      let location = (fields.ranged 0 locations).takes (t ∷ ts) l.0.1 l.0.0 l.1 in
+      both (λ (y : FileUse) r. (y.turn ≡ u.0) × (y.number ≡ u.1) × Begins (t ∷ ts) (decimal y.location ∷ []) r × FitsRoot locations n y) (record { turn = u.0; number = u.1; location = l.0.0 }) x ts rest (ok_is _ _ l.2)
+      (refl, refl, (location.0.0, refl), record { named = is; location = location.1.to; small = small; location_small = location.1.small })
 
--- ---- the whole file
+  root_takes : (ts rest : List Token) (x : FileUse) → root_at locations n ts ≡ Ok (x, rest) → Begins ts (spell_use x) rest × FitsRoot locations n x
+  root_takes [] rest x e = absurd cc
+  root_takes (t ∷ ts) rest x e =
+      let u = bind_ok (root_named n t (use_of t.text)) (λ u. root_located locations u ts) (x, rest) e in
+      let is = named_takes t (use_of t.text) refl u.0 u.1 in
+      let l = located_takes u.0 ts rest x is.1 is.2 u.2 in
+      ((is.0 ∙ ap (λ z. use_text z u.0.1) (sym l.0) ∙ ap (use_text x.turn) (sym l.1), l.2), l.3)
 
-pub record FitsFile (limits : Limits) (f : File) : Type 0 where
-  pub version : f.version ≡ 1
+  module _ (names : SignsAndNamesTell) where
+    root_again : (ts rest : List Token) (x : FileUse) → Begins ts (spell_use x) rest → FitsRoot locations n x → root_at locations n ts ≡ Ok (x, rest)
+    root_again [] rest x b is = absurd b
+    root_again (t ∷ []) rest x b is = absurd b.1
+    root_again (t ∷ t2 ∷ ts) rest x b is =
+        let location = (fields.ranged 0 locations).again (t2 ∷ ts) ts x.location (b.1.0, refl) (record { small = is.location_small; from = omega arith; to = is.location }) in
+        rw (b.0, use_again forms names x.turn x.number is.small, le-leb 1 x.number is.named.0, le-leb x.number n is.named.1, location, b.1.1) refl
+
+-- ---- what is to be shown of a file, section by section
+
+abbrev pub FitsTable : {A : Type 0} → (A → Type 0) → Limits → List A → Type 0
+FitsTable Fits limits xs = IsSoundTable Fits xs × (length xs ≤ limits.entries)
+
+pub record FitRecords (limits : Limits) (f : File) : Type 0 where
   pub countable : length f.records < 10 ^ 18
   pub within : length f.records ≤ limits.records
-  pub records : FitAll limits.uses (length f.records) nothing_read f.records
-  pub root : FitsRoot (length f.records) f.root
+  pub fit : FitAll (record { locations = length f.locations; records = length f.records; uses = limits.uses }) nothing_read f.records
 
-file_text : (f : File) (end : List (List ℕ)) → spell_file f ++ end ≡ spell_tables ++ (codes "TShapes" ∷ decimal (length f.records) ∷ (flat_map spell_record f.records ++ (spell_use f.root ++ end)))
-file_text f end = ap (λ (ts : List (List ℕ)). spell_tables ++ (codes "TShapes" ∷ decimal (length f.records) ∷ ts)) (append_assoc (flat_map spell_record f.records) (spell_use f.root) end)
+abbrev pub FitsEnd : File → Type 0
+FitsEnd f = FitsRoot (length f.locations) (length f.records) f.root
 
-end_takes : (ts : List (List ℕ)) (f : File) (end : List (List ℕ)) → is_end end ≡ true → ts ≡ spell_file f ++ end → IsSpelling ts f
-end_takes ts f [] is e = inl (e ∙ append-nil (spell_file f))
-end_takes ts f (t ∷ []) is e = inr (e ∙ ap (λ (w : List ℕ). spell_file f ++ w ∷ []) (same_text t (codes "0") is))
-end_takes ts f (t ∷ u ∷ us) is e = absurd cc
+-- a file read from a section on has the earlier sections of the file so far
+abbrev KeepsRoot : File → File → Type 0
+KeepsRoot f g = g ≡ record f { root = g.root }
 
-pub file_takes : (limits : Limits) (ts : List (List ℕ)) (f : File) → file_at limits ts ≡ Some f → IsSpelling ts f × FitsFile limits f
-unfolding file_at
-file_takes limits ts f e =
-    let a = bind_some (tables_at ts) (λ a. count_at limits.records a.1 >>= λ n. records_from n.0 limits.uses n.0 nothing_read n.1 >>= λ r. root_at n.0 r.1 >>= λ u. if is_end u.1 then Some (record { version = 1; records = r.0.records; root = u.0 }) else None) f e in
-    let n = bind_some (count_at limits.records a.0.1) (λ n. records_from n.0 limits.uses n.0 nothing_read n.1 >>= λ r. root_at n.0 r.1 >>= λ u. if is_end u.1 then Some (record { version = 1; records = r.0.records; root = u.0 }) else None) f a.2 in
-    let r = bind_some (records_from n.0.0 limits.uses n.0.0 nothing_read n.0.1) (λ r. root_at n.0.0 r.1 >>= λ u. if is_end u.1 then Some (record { version = 1; records = r.0.records; root = u.0 }) else None) f n.2 in
-    let u = bind_some (root_at n.0.0 r.0.1) (λ u. if is_end u.1 then Some (record { version = 1; records = r.0.0.records; root = u.0 }) else None) f r.2 in
-    let g = guard_some (is_end u.0.1) (record { version = 1; records = r.0.0.records; root = u.0.0 }) f u.2 in
-    let tn = count_takes limits.records a.0.1 n.0 n.1 in
-    let tr = records_takes n.0.0 limits.uses n.0.0 nothing_read n.0.1 r.0 r.1 in
-    let tu = root_takes n.0.0 r.0.1 u.0 u.1 in
-    let made : File = record { version = 1; records = tr.all; root = u.0.0 } in
-    let same : r.0.0.records ≡ tr.all = ap (λ (s : SoFar). s.records) tr.result ∙ after_all-records n.0.0 nothing_read tr.all in
-    let is : made ≡ f = ap (λ (rs : List Record). record { version = 1; records = rs; root = u.0.0 }) (sym same) ∙ g.1 in
-    let text : ts ≡ spell_file made ++ u.0.1 =
-    going_on spell_tables (tables_takes ts a.0 a.1) (going_on (codes "TShapes" ∷ decimal n.0.0 ∷ []) tn.0 (going_on (flat_map spell_record tr.all) tr.spelled tu.0))
-    ∙ ap (λ (m : ℕ). spell_tables ++ (codes "TShapes" ∷ decimal m ∷ (flat_map spell_record tr.all ++ (spell_use u.0.0 ++ u.0.1)))) (sym tr.many)
-    ∙ sym (file_text made u.0.1) in
-    subst (λ (h : File). IsSpelling ts h × FitsFile limits h) is (
-      end_takes ts made u.0.1 g.0 text,
-      record {
-        version = refl;
-        countable = omega (arith, tn.1, tr.many);
-        within = omega (arith, tn.2, tr.many);
-        records = subst (λ (m : ℕ). FitAll limits.uses m nothing_read tr.all) (sym tr.many) tr.fit;
-        root = subst (λ (m : ℕ). FitsRoot m u.0.0) (sym tr.many) tu.1;
-      },
-    )
+abbrev KeepsRecords : File → File → Type 0
+KeepsRecords f g = KeepsRoot (record f { records = g.records }) g
 
-with_end : (limits : Limits) (f : File) (end : List (List ℕ)) → is_end end ≡ true → FitsFile limits f → file_at limits (spell_file f ++ end) ≡ Some f
-unfolding file_at
-with_end limits f end is fits =
-    let n = length f.records in
-    let after_records = spell_use f.root ++ end in
-    let after_count = flat_map spell_record f.records ++ after_records in
-    ap (file_at limits) (file_text f end)
-    ∙ rw (tables_again (codes "TShapes" ∷ decimal n ∷ after_count), count_again limits.records n after_count fits.countable fits.within, records_again f.records limits.uses n nothing_read after_records fits.records, root_again n f.root end fits.root, is, after_all-records n nothing_read f.records, ← fits.version) refl
+abbrev KeepsMeshes : File → File → Type 0
+KeepsMeshes f g = KeepsRecords (record f { meshes = g.meshes }) g
 
-pub file_again : (limits : Limits) (ts : List (List ℕ)) (f : File) → IsSpelling ts f → FitsFile limits f → file_at limits ts ≡ Some f
-file_again limits ts f (inl e) fits = ap (file_at limits) (e ∙ sym (append-nil (spell_file f))) ∙ with_end limits f [] refl fits
-file_again limits ts f (inr e) fits = ap (file_at limits) e ∙ with_end limits f (codes "0" ∷ []) refl fits
+abbrev KeepsSurfaces : File → File → Type 0
+KeepsSurfaces f g = KeepsMeshes (record f { surfaces = g.surfaces }) g
+
+abbrev KeepsPolygonsOn : File → File → Type 0
+KeepsPolygonsOn f g = KeepsSurfaces (record f { polygons_on = g.polygons_on }) g
+
+abbrev KeepsPolygons : File → File → Type 0
+KeepsPolygons f g = KeepsPolygonsOn (record f { polygons = g.polygons }) g
+
+abbrev KeepsCurves : File → File → Type 0
+KeepsCurves f g = KeepsPolygons (record f { curves = g.curves }) g
+
+abbrev KeepsCurve2s : File → File → Type 0
+KeepsCurve2s f g = KeepsCurves (record f { curve2s = g.curve2s }) g
+
+abbrev KeepsLocations : File → File → Type 0
+KeepsLocations f g = KeepsCurve2s (record f { locations = g.locations }) g
+
+abbrev spell_from_records : File → List (List ℕ)
+spell_from_records f = section (codes "TShapes") spell_record f.records ++ spell_use f.root
+
+-- ---- any section before the records
+
+module _ {A : Type 0} (read : List Token → Read (List A)) (spell : List A → List (List ℕ)) (P : List A → Type 0) (exact : IsExact read spell P)
+    (put : File → List A → File) (get : File → List A) (next : File → List Token → Read File) (tail : File → List (List ℕ)) (Fits : File → Type 0) (Keeps : File → File → Type 0) where
+  table_takes : ((f : File) (ts rest : List Token) (g : File) → next f ts ≡ Ok (g, rest) → Begins ts (tail g) rest × Fits g × Keeps f g) → ((f : File) (xs : List A) (g : File) → Keeps (put f xs) g → get g ≡ xs)
+      → (f : File) (ts rest : List Token) (g : File) → (read ts >>= λ x. next (put f x.0) x.1) ≡ Ok (g, rest) → Begins ts (spell (get g) ++ tail g) rest × (P (get g) × Fits g) × Keeps (put f (get g)) g
+  table_takes later kept f ts rest g e =
+      let s = bind_ok (read ts) (λ x. next (put f x.0) x.1) (g, rest) e in
+      let one = exact.takes ts s.0.1 s.0.0 s.1 in
+      let others = later (put f s.0.0) s.0.1 rest g s.2 in
+      let same : s.0.0 ≡ get g = sym (kept f s.0.0 g others.2) in
+      subst (λ (xs : List A). Begins ts (spell xs ++ tail g) rest × (P xs × Fits g) × Keeps (put f xs) g) same (Begins-then ts (spell s.0.0) s.0.1 (tail g) rest one.0 others.0, (one.1, others.1), others.2)
+
+  table_again : ((f : File) (ts rest : List Token) (g : File) → Begins ts (tail g) rest → Fits g → Keeps f g → next f ts ≡ Ok (g, rest))
+      → (f : File) (ts rest : List Token) (g : File) → Begins ts (spell (get g) ++ tail g) rest → P (get g) × Fits g → Keeps (put f (get g)) g → (read ts >>= λ x. next (put f x.0) x.1) ≡ Ok (g, rest)
+  table_again later f ts rest g b fits keeps =
+      let s = Begins-split ts (spell (get g)) (tail g) rest b in
+      rw (exact.again ts s.0 (get g) s.1 fits.0) (later (put f (get g)) s.0 rest g s.2 fits.1 keeps)
+
+-- ---- what is spelled, and what is to be shown, from each section on
+
+abbrev spell_from_meshes : File → List (List ℕ)
+spell_from_meshes f = section (codes "Triangulations") spell_mesh f.meshes ++ spell_from_records f
+
+abbrev spell_from_surfaces : File → List (List ℕ)
+spell_from_surfaces f = section (codes "Surfaces") spell_surface f.surfaces ++ spell_from_meshes f
+
+abbrev spell_from_polygons_on : File → List (List ℕ)
+spell_from_polygons_on f = section (codes "PolygonOnTriangulations") spell_polygon_on f.polygons_on ++ spell_from_surfaces f
+
+abbrev spell_from_polygons : File → List (List ℕ)
+spell_from_polygons f = section (codes "Polygon3D") spell_polygon f.polygons ++ spell_from_polygons_on f
+
+abbrev spell_from_curves : File → List (List ℕ)
+spell_from_curves f = section (codes "Curves") spelling3 f.curves ++ spell_from_polygons f
+
+abbrev spell_from_curve2s : File → List (List ℕ)
+spell_from_curve2s f = section (codes "Curve2ds") spelling2 f.curve2s ++ spell_from_curves f
+
+abbrev spell_from_locations : File → List (List ℕ)
+spell_from_locations f = section (codes "Locations") spell_location f.locations ++ spell_from_curve2s f
+
+abbrev pub FitMeshes : Limits → File → Type 0
+FitMeshes limits f = FitsTable IsSoundMesh limits f.meshes × (FitRecords limits f × FitsEnd f)
+
+abbrev pub FitSurfaces : Limits → File → Type 0
+FitSurfaces limits f = FitsTable IsSoundSurface limits f.surfaces × FitMeshes limits f
+
+abbrev pub FitPolygonsOn : Limits → File → Type 0
+FitPolygonsOn limits f = FitsTable IsSoundPolygonOn limits f.polygons_on × FitSurfaces limits f
+
+abbrev pub FitPolygons : Limits → File → Type 0
+FitPolygons limits f = FitsTable IsSoundPolygon limits f.polygons × FitPolygonsOn limits f
+
+abbrev pub FitCurves : Limits → File → Type 0
+FitCurves limits f = FitsTable (IsSound3 0) limits f.curves × FitPolygons limits f
+
+abbrev pub FitCurve2s : Limits → File → Type 0
+FitCurve2s limits f = FitsTable IsSound2 limits f.curve2s × FitCurves limits f
+
+abbrev pub FitFile : Limits → File → Type 0
+FitFile limits f = FitLocations limits.entries f.locations × FitCurve2s limits f
+
+-- ---- the sections of a file
+
+abbrev ok_file : File → List Token → Read File
+ok_file f rest = Ok (f, rest)
+
+abbrev bounds_of : ℕ → ℕ → ℕ → Bounds
+bounds_of locations n uses = record { locations = locations; records = n; uses = uses }
+
+module _ (forms : FormsAreExact) (fields : FieldsAreExact) (names : SignsAndNamesTell) (locations : LocationsAreExact) (curves : CurvesAreExact) (meshes : MeshesAreExact) (surfaces : SurfacesAreExact) (limits : Limits) where
+  abbrev most : ℕ
+  most = limits.entries
+
+  -- the root use
+
+  end_takes : (f : File) (ts rest : List Token) (g : File) → from_root f ts ≡ Ok (g, rest) → Begins ts (spell_use g.root) rest × FitsEnd g × KeepsRoot f g
+  unfolding from_root
+  end_takes f ts rest g e =
+      let u = bind_ok (root_at (length f.locations) (length f.records) ts) (λ x. Ok (record f { root = x.0 }, x.1)) (g, rest) e in
+      let is = root_takes forms fields (length f.locations) (length f.records) ts u.0.1 u.0.0 u.1 in
+      both (λ (h : File) r. Begins ts (spell_use h.root) r × FitsEnd h × KeepsRoot f h) (record f { root = u.0.0 }) g u.0.1 rest (ok_is _ _ u.2) (is.0, is.1, refl)
+
+  end_again : (f : File) (ts rest : List Token) (g : File) → Begins ts (spell_use g.root) rest → FitsEnd g → KeepsRoot f g → from_root f ts ≡ Ok (g, rest)
+  unfolding from_root
+  end_again f ts rest g b fits keeps =
+      let fits_here : FitsRoot (length f.locations) (length f.records) g.root =
+      subst (λ (n : ℕ). FitsRoot n (length f.records) g.root) (ap (λ (h : File). length h.locations) keeps) (subst (λ (n : ℕ). FitsRoot (length g.locations) n g.root) (ap (λ (h : File). length h.records) keeps) fits) in
+      rw (root_again forms fields (length f.locations) (length f.records) names ts rest g.root b fits_here) (ap (λ (h : File). ok_file h rest) (sym keeps))
+
+  -- the records
+
+  records_from_takes : (f : File) (ts rest : List Token) (g : File) → from_records limits f ts ≡ Ok (g, rest) → Begins ts (spell_from_records g) rest × (FitRecords limits g × FitsEnd g) × KeepsRecords f g
+  unfolding from_records
+  records_from_takes f ts rest g e =
+      let h = bind_ok (heading_at (codes "TShapes") limits.records ts) (λ n. records_from (record { locations = length f.locations; records = n.0; uses = limits.uses }) nothing_read n.0 n.1 >>= λ x. from_root (record f { records = x.0.records }) x.1) (g, rest) e in
+      let b : Bounds = record { locations = length f.locations; records = h.0.0; uses = limits.uses } in
+      let r = bind_ok (records_from b nothing_read h.0.0 h.0.1) (λ x. from_root (record f { records = x.0.records }) x.1) (g, rest) h.2 in
+      let head = heading_takes fields (codes "TShapes") limits.records ts h.0.1 h.0.0 h.1 in
+      let read = records_takes forms fields names b h.0.0 nothing_read h.0.1 r.0.1 r.0.0 (omega arith) r.1 in
+      let end = end_takes (record f { records = r.0.0.records }) r.0.1 rest g r.2 in
+      let all : r.0.0.records ≡ read.all = ap (λ (s : SoFar). s.records) read.result ∙ after_all-records h.0.0 nothing_read read.all in
+      let kept : g.records ≡ r.0.0.records = ap (λ (h : File). h.records) end.2 in
+      let same : read.all ≡ g.records = sym (kept ∙ all) in
+      let count : h.0.0 ≡ length g.records = sym read.many ∙ ap length same in
+      let places : length f.locations ≡ length g.locations = sym (ap (λ (h : File). length h.locations) end.2) in
+      let bounds : b ≡ record { locations = length g.locations; records = length g.records; uses = limits.uses } = ap (λ (n : ℕ). bounds_of n h.0.0 limits.uses) places ∙ ap (λ (n : ℕ). bounds_of (length g.locations) n limits.uses) count in
+      let heading : Begins ts (codes "TShapes" ∷ decimal (length g.records) ∷ []) h.0.1 = subst (λ (n : ℕ). Begins ts (codes "TShapes" ∷ decimal n ∷ []) h.0.1) count head.0 in
+      let spelled : Begins h.0.1 (flat_map spell_record g.records) r.0.1 = subst (λ rs. Begins h.0.1 (flat_map spell_record rs) r.0.1) same read.spelled in
+      let fit : FitAll b nothing_read g.records = subst (λ rs. FitAll b nothing_read rs) same read.fit in (
+        Begins-then ts (section (codes "TShapes") spell_record g.records) r.0.1 (spell_use g.root) rest (Begins-then ts (codes "TShapes" ∷ decimal (length g.records) ∷ []) h.0.1 (flat_map spell_record g.records) r.0.1 heading spelled) end.0,
+        (record { countable = subst (λ (n : ℕ). n < 10 ^ 18) count head.1; within = subst (λ (n : ℕ). n ≤ limits.records) count head.2; fit = subst (λ (c : Bounds). FitAll c nothing_read g.records) bounds fit }, end.1),
+        subst (λ rs. KeepsRoot (record f { records = rs }) g) (sym kept) end.2,
+      )
+
+  records_from_again : (f : File) (ts rest : List Token) (g : File) → Begins ts (spell_from_records g) rest → FitRecords limits g × FitsEnd g → KeepsRecords f g → from_records limits f ts ≡ Ok (g, rest)
+  unfolding from_records
+  records_from_again f ts rest g b fits keeps =
+      let whole = Begins-split ts (section (codes "TShapes") spell_record g.records) (spell_use g.root) rest b in
+      let parts = Begins-split ts (codes "TShapes" ∷ decimal (length g.records) ∷ []) (flat_map spell_record g.records) whole.0 whole.1 in
+      let places : length g.locations ≡ length f.locations = ap (λ (h : File). length h.locations) keeps in
+      let fit : FitAll (bounds_of (length f.locations) (length g.records) limits.uses) nothing_read g.records = subst (λ (n : ℕ). FitAll (bounds_of n (length g.records) limits.uses) nothing_read g.records) places fits.0.fit in
+      rw (
+        heading_again fields (codes "TShapes") limits.records ts parts.0 (length g.records) parts.1 fits.0.countable fits.0.within,
+        records_again forms fields names (bounds_of (length f.locations) (length g.records) limits.uses) g.records nothing_read parts.0 whole.0 parts.2 fit,
+        after_all-records (length g.records) nothing_read g.records,
+      ) (end_again (record f { records = g.records }) whole.0 rest g whole.2 fits.1 keeps)
+
+  -- the tables, from the last to the first
+
+  meshes_takes : (f : File) (ts rest : List Token) (g : File) → from_meshes limits f ts ≡ Ok (g, rest) → Begins ts (spell_from_meshes g) rest × FitMeshes limits g × KeepsMeshes f g
+  unfolding from_meshes
+  meshes_takes f ts rest g e = table_takes (section_at (codes "Triangulations") most mesh_at) (section (codes "Triangulations") spell_mesh) (FitsTable IsSoundMesh limits) (section_is_exact fields (codes "Triangulations") most mesh_at spell_mesh IsSoundMesh meshes.mesh) (λ f xs. record f { meshes = xs }) (λ f. f.meshes) (from_records limits) spell_from_records (λ g. FitRecords limits g × FitsEnd g) KeepsRecords records_from_takes (λ f xs g keeps. ap (λ (h : File). h.meshes) keeps) f ts rest g e
+
+  meshes_again : (f : File) (ts rest : List Token) (g : File) → Begins ts (spell_from_meshes g) rest → FitMeshes limits g → KeepsMeshes f g → from_meshes limits f ts ≡ Ok (g, rest)
+  unfolding from_meshes
+  meshes_again f ts rest g b fits keeps = table_again (section_at (codes "Triangulations") most mesh_at) (section (codes "Triangulations") spell_mesh) (FitsTable IsSoundMesh limits) (section_is_exact fields (codes "Triangulations") most mesh_at spell_mesh IsSoundMesh meshes.mesh) (λ f xs. record f { meshes = xs }) (λ f. f.meshes) (from_records limits) spell_from_records (λ g. FitRecords limits g × FitsEnd g) KeepsRecords records_from_again f ts rest g b fits keeps
+
+  surfaces_takes : (f : File) (ts rest : List Token) (g : File) → from_surfaces limits f ts ≡ Ok (g, rest) → Begins ts (spell_from_surfaces g) rest × FitSurfaces limits g × KeepsSurfaces f g
+  unfolding from_surfaces
+  surfaces_takes f ts rest g e = table_takes (section_at (codes "Surfaces") most surface_at) (section (codes "Surfaces") spell_surface) (FitsTable IsSoundSurface limits) (section_is_exact fields (codes "Surfaces") most surface_at spell_surface IsSoundSurface surfaces.surface) (λ f xs. record f { surfaces = xs }) (λ f. f.surfaces) (from_meshes limits) spell_from_meshes (FitMeshes limits) KeepsMeshes meshes_takes (λ f xs g keeps. ap (λ (h : File). h.surfaces) keeps) f ts rest g e
+
+  surfaces_again : (f : File) (ts rest : List Token) (g : File) → Begins ts (spell_from_surfaces g) rest → FitSurfaces limits g → KeepsSurfaces f g → from_surfaces limits f ts ≡ Ok (g, rest)
+  unfolding from_surfaces
+  surfaces_again f ts rest g b fits keeps = table_again (section_at (codes "Surfaces") most surface_at) (section (codes "Surfaces") spell_surface) (FitsTable IsSoundSurface limits) (section_is_exact fields (codes "Surfaces") most surface_at spell_surface IsSoundSurface surfaces.surface) (λ f xs. record f { surfaces = xs }) (λ f. f.surfaces) (from_meshes limits) spell_from_meshes (FitMeshes limits) KeepsMeshes meshes_again f ts rest g b fits keeps
+
+  polygons_on_takes : (f : File) (ts rest : List Token) (g : File) → from_polygons_on limits f ts ≡ Ok (g, rest) → Begins ts (spell_from_polygons_on g) rest × FitPolygonsOn limits g × KeepsPolygonsOn f g
+  unfolding from_polygons_on
+  polygons_on_takes f ts rest g e = table_takes (section_at (codes "PolygonOnTriangulations") most polygon_on_at) (section (codes "PolygonOnTriangulations") spell_polygon_on) (FitsTable IsSoundPolygonOn limits) (section_is_exact fields (codes "PolygonOnTriangulations") most polygon_on_at spell_polygon_on IsSoundPolygonOn meshes.polygon_on) (λ f xs. record f { polygons_on = xs }) (λ f. f.polygons_on) (from_surfaces limits) spell_from_surfaces (FitSurfaces limits) KeepsSurfaces surfaces_takes (λ f xs g keeps. ap (λ (h : File). h.polygons_on) keeps) f ts rest g e
+
+  polygons_on_again : (f : File) (ts rest : List Token) (g : File) → Begins ts (spell_from_polygons_on g) rest → FitPolygonsOn limits g → KeepsPolygonsOn f g → from_polygons_on limits f ts ≡ Ok (g, rest)
+  unfolding from_polygons_on
+  polygons_on_again f ts rest g b fits keeps = table_again (section_at (codes "PolygonOnTriangulations") most polygon_on_at) (section (codes "PolygonOnTriangulations") spell_polygon_on) (FitsTable IsSoundPolygonOn limits) (section_is_exact fields (codes "PolygonOnTriangulations") most polygon_on_at spell_polygon_on IsSoundPolygonOn meshes.polygon_on) (λ f xs. record f { polygons_on = xs }) (λ f. f.polygons_on) (from_surfaces limits) spell_from_surfaces (FitSurfaces limits) KeepsSurfaces surfaces_again f ts rest g b fits keeps
+
+  polygons_takes : (f : File) (ts rest : List Token) (g : File) → from_polygons limits f ts ≡ Ok (g, rest) → Begins ts (spell_from_polygons g) rest × FitPolygons limits g × KeepsPolygons f g
+  unfolding from_polygons
+  polygons_takes f ts rest g e = table_takes (section_at (codes "Polygon3D") most polygon_at) (section (codes "Polygon3D") spell_polygon) (FitsTable IsSoundPolygon limits) (section_is_exact fields (codes "Polygon3D") most polygon_at spell_polygon IsSoundPolygon meshes.polygon) (λ f xs. record f { polygons = xs }) (λ f. f.polygons) (from_polygons_on limits) spell_from_polygons_on (FitPolygonsOn limits) KeepsPolygonsOn polygons_on_takes (λ f xs g keeps. ap (λ (h : File). h.polygons) keeps) f ts rest g e
+
+  polygons_again : (f : File) (ts rest : List Token) (g : File) → Begins ts (spell_from_polygons g) rest → FitPolygons limits g → KeepsPolygons f g → from_polygons limits f ts ≡ Ok (g, rest)
+  unfolding from_polygons
+  polygons_again f ts rest g b fits keeps = table_again (section_at (codes "Polygon3D") most polygon_at) (section (codes "Polygon3D") spell_polygon) (FitsTable IsSoundPolygon limits) (section_is_exact fields (codes "Polygon3D") most polygon_at spell_polygon IsSoundPolygon meshes.polygon) (λ f xs. record f { polygons = xs }) (λ f. f.polygons) (from_polygons_on limits) spell_from_polygons_on (FitPolygonsOn limits) KeepsPolygonsOn polygons_on_again f ts rest g b fits keeps
+
+  curves_takes : (f : File) (ts rest : List Token) (g : File) → from_curves limits f ts ≡ Ok (g, rest) → Begins ts (spell_from_curves g) rest × FitCurves limits g × KeepsCurves f g
+  unfolding from_curves
+  curves_takes f ts rest g e = table_takes (section_at (codes "Curves") most (curve3_at 0)) (section (codes "Curves") spelling3) (FitsTable (IsSound3 0) limits) (section_is_exact fields (codes "Curves") most (curve3_at 0) spelling3 (IsSound3 0) (curves.curve3 0 (omega arith))) (λ f xs. record f { curves = xs }) (λ f. f.curves) (from_polygons limits) spell_from_polygons (FitPolygons limits) KeepsPolygons polygons_takes (λ f xs g keeps. ap (λ (h : File). h.curves) keeps) f ts rest g e
+
+  curves_again : (f : File) (ts rest : List Token) (g : File) → Begins ts (spell_from_curves g) rest → FitCurves limits g → KeepsCurves f g → from_curves limits f ts ≡ Ok (g, rest)
+  unfolding from_curves
+  curves_again f ts rest g b fits keeps = table_again (section_at (codes "Curves") most (curve3_at 0)) (section (codes "Curves") spelling3) (FitsTable (IsSound3 0) limits) (section_is_exact fields (codes "Curves") most (curve3_at 0) spelling3 (IsSound3 0) (curves.curve3 0 (omega arith))) (λ f xs. record f { curves = xs }) (λ f. f.curves) (from_polygons limits) spell_from_polygons (FitPolygons limits) KeepsPolygons polygons_again f ts rest g b fits keeps
+
+  curve2s_takes : (f : File) (ts rest : List Token) (g : File) → from_curve2s limits f ts ≡ Ok (g, rest) → Begins ts (spell_from_curve2s g) rest × FitCurve2s limits g × KeepsCurve2s f g
+  unfolding from_curve2s
+  curve2s_takes f ts rest g e = table_takes (section_at (codes "Curve2ds") most curve2_at) (section (codes "Curve2ds") spelling2) (FitsTable IsSound2 limits) (section_is_exact fields (codes "Curve2ds") most curve2_at spelling2 IsSound2 curves.curve2) (λ f xs. record f { curve2s = xs }) (λ f. f.curve2s) (from_curves limits) spell_from_curves (FitCurves limits) KeepsCurves curves_takes (λ f xs g keeps. ap (λ (h : File). h.curve2s) keeps) f ts rest g e
+
+  curve2s_again : (f : File) (ts rest : List Token) (g : File) → Begins ts (spell_from_curve2s g) rest → FitCurve2s limits g → KeepsCurve2s f g → from_curve2s limits f ts ≡ Ok (g, rest)
+  unfolding from_curve2s
+  curve2s_again f ts rest g b fits keeps = table_again (section_at (codes "Curve2ds") most curve2_at) (section (codes "Curve2ds") spelling2) (FitsTable IsSound2 limits) (section_is_exact fields (codes "Curve2ds") most curve2_at spelling2 IsSound2 curves.curve2) (λ f xs. record f { curve2s = xs }) (λ f. f.curve2s) (from_curves limits) spell_from_curves (FitCurves limits) KeepsCurves curves_again f ts rest g b fits keeps
+
+  locations_takes : (f : File) (ts rest : List Token) (g : File) → from_locations limits f ts ≡ Ok (g, rest) → Begins ts (spell_from_locations g) rest × FitFile limits g × KeepsLocations f g
+  unfolding from_locations
+  locations_takes f ts rest g e = table_takes (locations_at most) (section (codes "Locations") spell_location) (FitLocations most) (locations_section locations fields most) (λ f xs. record f { locations = xs }) (λ f. f.locations) (from_curve2s limits) spell_from_curve2s (FitCurve2s limits) KeepsCurve2s curve2s_takes (λ f xs g keeps. ap (λ (h : File). h.locations) keeps) f ts rest g e
+
+  locations_again : (f : File) (ts rest : List Token) (g : File) → Begins ts (spell_from_locations g) rest → FitFile limits g → KeepsLocations f g → from_locations limits f ts ≡ Ok (g, rest)
+  unfolding from_locations
+  locations_again f ts rest g b fits keeps = table_again (locations_at most) (section (codes "Locations") spell_location) (FitLocations most) (locations_section locations fields most) (λ f xs. record f { locations = xs }) (λ f. f.locations) (from_curve2s limits) spell_from_curve2s (FitCurve2s limits) KeepsCurve2s curve2s_again f ts rest g b fits keeps
+
+  -- ---- the whole
+
+  regrouped : (f : File) → spell_file f ≡ spell_from_locations f
+  regrouped f =
+      append_assoc (section (codes "Locations") spell_location f.locations) _ (spell_from_records f)
+      ∙ ap (λ z. section (codes "Locations") spell_location f.locations ++ z) (append_assoc (section (codes "Curve2ds") spelling2 f.curve2s) _ (spell_from_records f)
+      ∙ ap (λ z. section (codes "Curve2ds") spelling2 f.curve2s ++ z) (append_assoc (section (codes "Curves") spelling3 f.curves) _ (spell_from_records f)
+      ∙ ap (λ z. section (codes "Curves") spelling3 f.curves ++ z) (append_assoc (section (codes "Polygon3D") spell_polygon f.polygons) _ (spell_from_records f)
+      ∙ ap (λ z. section (codes "Polygon3D") spell_polygon f.polygons ++ z) (append_assoc (section (codes "PolygonOnTriangulations") spell_polygon_on f.polygons_on) _ (spell_from_records f)
+      ∙ ap (λ z. section (codes "PolygonOnTriangulations") spell_polygon_on f.polygons_on ++ z) (append_assoc (section (codes "Surfaces") spell_surface f.surfaces) (section (codes "Triangulations") spell_mesh f.meshes) (spell_from_records f))))))
+
+  pub file_takes : (v : ℕ) (ts rest : List Token) (f : File) → from_locations limits (begun v) ts ≡ Ok (f, rest) → Begins ts (spell_file f) rest × FitFile limits f × (f.version ≡ v)
+  file_takes v ts rest f e =
+      let t = locations_takes (begun v) ts rest f e in
+      (subst (λ z. Begins ts z rest) (sym (regrouped f)) t.0, t.1, ap (λ (h : File). h.version) t.2)
+
+  pub file_again : (ts rest : List Token) (f : File) → Begins ts (spell_file f) rest → FitFile limits f → from_locations limits (begun f.version) ts ≡ Ok (f, rest)
+  file_again ts rest f b fits = locations_again (begun f.version) ts rest f (subst (λ z. Begins ts z rest) (regrouped f) b) fits refl

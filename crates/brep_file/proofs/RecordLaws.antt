@@ -1,23 +1,27 @@
 -- Records are read exactly as they are spelled.
-use Rattle.std.proofs.Common.{◌≡◌, ℕ, zero, suc, ◌+◌, ◌-◌, ◌<◌, ◌≤◌, List, [], ◌∷◌, ◌++◌, length, Some, refl, sym, ap, subst, ◌∙◌, append_assoc, append-nil, arith}
-use Rattle.std.specs.Prelude.{codes}
+use Rattle.std.proofs.Common.{◌≡◌, ℕ, zero, suc, ◌+◌, ◌≤◌, List, [], ◌∷◌, ◌++◌, length, Ok, refl, sym, ap, subst, ◌∙◌, append_assoc, append-nil, arith}
 use Rattle.std.specs.List.{flat_map, AllByRecursion}
-use Rattle.brep_file.specs.declared.file.FileUse.{FileUse}
-use Rattle.brep_file.specs.declared.file.Record.{Record}
+use Rattle.brep_tokens.specs.Laws.{FormsAreExact}
+use Rattle.brep_tokens.specs.declared.text.Token.{Token}
+use Rattle.entry_readers.specs.Begins.{Begins, FieldsAreExact}
+use Rattle.entry_readers.proofs.Binds.{bind_ok, ok_is, Begins-then, Begins-split}
+use Rattle.orientation.specs.Laws.{SignsAndNamesTell}
+use Rattle.brep_file.specs.declared.uses.FileUse.{FileUse}
+use Rattle.brep_file.specs.declared.records.Record.{Record}
 use Rattle.brep_file.specs.Sound.{IsShaped}
-use Rattle.brep_file.specs.Spelling.{spell_use, spell_head, spell_record}
-use Rattle.brep_file.specs.Fields.{◌>>=◌, head_at}
-use Rattle.brep_file.specs.RecordReading.{none_gathered, uses_from, SoFar, with_record, record_at, records_from}
-use Rattle.brep_file.proofs.FieldLaws.{bind_some, some_is, going_on}
-use Rattle.brep_file.proofs.HeadLaws.{head_takes, head_again}
-use Rattle.brep_file.proofs.UseLaws.{FitsUse, with_uses, with_uses-uses, uses_takes, uses_again}
+use Rattle.brep_file.specs.Spelling.{spell_head, spell_record}
+use Rattle.brep_file.specs.HeadReading.{head_at}
+use Rattle.brep_file.specs.Many.{many_from}
+use Rattle.brep_file.specs.RecordReading.{Bounds, none_gathered, uses_from, SoFar, with_record, used, record_at}
+use Rattle.brep_file.proofs.HeadLaws.{head_is_exact}
+use Rattle.brep_file.proofs.UseLaws.{FitsUse, with_uses, with_uses-uses, spell_uses, uses_takes, uses_again}
 
 -- ---- what is to be shown of records, given what was read before
 
-pub record FitsRecord (most n : ℕ) (s : SoFar) (r : Record) : Type 0 where
+pub record FitsRecord (b : Bounds) (s : SoFar) (r : Record) : Type 0 where
   pub shaped : IsShaped r.head.kind r.head.payload
-  pub uses : AllByRecursion (FitsUse n r.head.kind s.seen) r.uses
-  pub few : length r.uses ≤ most - s.uses
+  pub uses : AllByRecursion (FitsUse b.locations b.records r.head.kind s.seen) r.uses
+  pub few : s.uses + length r.uses ≤ b.uses
 
 abbrev pub after : ℕ → SoFar → Record → SoFar
 after n s r = with_record s r.head (with_uses n s.seen none_gathered r.uses)
@@ -26,9 +30,9 @@ abbrev pub after_all : ℕ → SoFar → List Record → SoFar
 after_all n s [] = s
 after_all n s (r ∷ rs) = after_all n (after n s r) rs
 
-abbrev pub FitAll : ℕ → ℕ → SoFar → List Record → Type 0
-FitAll most n s [] = Unit {0}
-FitAll most n s (r ∷ rs) = FitsRecord most n s r × FitAll most n (after n s r) rs
+abbrev pub FitAll : Bounds → SoFar → List Record → Type 0
+FitAll b s [] = Unit {0}
+FitAll b s (r ∷ rs) = FitsRecord b s r × FitAll b (after b.records s r) rs
 
 pub after-records : (n : ℕ) (s : SoFar) (r : Record) → (after n s r).records ≡ s.records ++ r ∷ []
 after-records n s r = ap (λ (us : List FileUse). s.records ++ record { head = r.head; uses = us } ∷ []) (with_uses-uses n s.seen none_gathered r.uses)
@@ -42,69 +46,62 @@ after_all-records n s (r ∷ rs) = after_all-records n (after n s r) rs ∙ ap (
 
 -- ---- one record
 
-pub record IsRead (most n : ℕ) (s : SoFar) (ts : List (List ℕ)) (x : SoFar × List (List ℕ)) : Type 0 where
+pub record IsRead (b : Bounds) (s : SoFar) (ts : List Token) (x : SoFar) (rest : List Token) : Type 0 where
   pub one : Record
-  pub spelled : ts ≡ spell_record one ++ x.1
-  pub fits : FitsRecord most n s one
-  pub result : x.0 ≡ after n s one
+  pub spelled : Begins ts (spell_record one) rest
+  pub fits : FitsRecord b s one
+  pub result : x ≡ after b.records s one
 
-regrouped : (r : Record) (rest : List (List ℕ)) → spell_record r ++ rest ≡ spell_head r.head ++ (flat_map spell_use r.uses ++ codes "*" ∷ rest)
-regrouped r rest = append_assoc (spell_head r.head) (flat_map spell_use r.uses ++ codes "*" ∷ []) rest ∙ ap (λ (ts : List (List ℕ)). spell_head r.head ++ ts) (append_assoc (flat_map spell_use r.uses) (codes "*" ∷ []) rest)
-
-pub record_takes : (most n : ℕ) (s : SoFar) (ts : List (List ℕ)) (x : SoFar × List (List ℕ)) → record_at most n s ts ≡ Some x → IsRead most n s ts x
-unfolding record_at
-record_takes most n s ts x e =
-    let h = bind_some (head_at ts) (λ h. uses_from (suc (most - s.uses)) n h.0.kind s.seen none_gathered h.1 >>= λ u. Some (with_record s h.0 u.0, u.1)) x e in
-    let u = bind_some (uses_from (suc (most - s.uses)) n h.0.0.kind s.seen none_gathered h.0.1) (λ u. Some (with_record s h.0.0 u.0, u.1)) x h.2 in
-    let th = head_takes ts h.0 h.1 in
-    let tu = uses_takes (suc (most - s.uses)) n h.0.0.kind s.seen none_gathered h.0.1 u.0 u.1 in
-    let made : Record = record { head = h.0.0; uses = tu.taken } in
-    record {
-      one = made;
-      spelled = going_on (spell_head h.0.0) th.0 tu.spelled ∙ sym (regrouped made u.0.1) ∙ ap (λ (y : SoFar × List (List ℕ)). spell_record made ++ y.1) (some_is u.2);
-      fits = record { shaped = th.1; uses = tu.fits; few = omega (arith, tu.few) };
-      result = sym (ap (λ (y : SoFar × List (List ℕ)). y.0) (some_is u.2)) ∙ ap (with_record s h.0.0) tu.result;
-    }
-
-pub record_again : (most n : ℕ) (s : SoFar) (r : Record) (rest : List (List ℕ)) → FitsRecord most n s r → record_at most n s (spell_record r ++ rest) ≡ Some (after n s r, rest)
-unfolding record_at
-record_again most n s r rest fits =
-    let few : length r.uses < suc (most - s.uses) = omega (arith, fits.few) in
-    ap (record_at most n s) (regrouped r rest) ∙ rw (head_again r.head (flat_map spell_use r.uses ++ codes "*" ∷ rest) fits.shaped, uses_again r.uses (suc (most - s.uses)) n r.head.kind s.seen none_gathered rest few fits.uses) refl
-
--- ---- all records
-
-pub record AreRead (count most n : ℕ) (s : SoFar) (ts : List (List ℕ)) (x : SoFar × List (List ℕ)) : Type 0 where
+pub record AreRead (b : Bounds) (count : ℕ) (s : SoFar) (ts : List Token) (x : SoFar) (rest : List Token) : Type 0 where
   pub all : List Record
   pub many : length all ≡ count
-  pub spelled : ts ≡ flat_map spell_record all ++ x.1
-  pub fit : FitAll most n s all
-  pub result : x.0 ≡ after_all n s all
+  pub spelled : Begins ts (flat_map spell_record all) rest
+  pub fit : FitAll b s all
+  pub result : x ≡ after_all b.records s all
 
-pub records_takes : (count most n : ℕ) (s : SoFar) (ts : List (List ℕ)) (x : SoFar × List (List ℕ)) → records_from count most n s ts ≡ Some x → AreRead count most n s ts x
-unfolding records_from
-records_takes zero most n s ts x e = record {
-  all = [];
-  many = refl;
-  spelled = ap (λ (y : SoFar × List (List ℕ)). y.1) (some_is e);
-  fit = tt;
-  result = sym (ap (λ (y : SoFar × List (List ℕ)). y.0) (some_is e));
-}
-records_takes (suc count) most n s ts x e =
-    let r = bind_some (record_at most n s ts) (λ r. records_from count most n r.0 r.1) x e in
-    let first = record_takes most n s ts r.0 r.1 in
-    let others = records_takes count most n r.0.0 r.0.1 x r.2 in
-    record {
-      all = first.one ∷ others.all;
-      many = ap suc others.many;
-      spelled = going_on (spell_record first.one) first.spelled others.spelled ∙ sym (append_assoc (spell_record first.one) (flat_map spell_record others.all) x.1);
-      fit = (first.fits, subst (λ (before : SoFar). FitAll most n before others.all) first.result others.fit);
-      result = others.result ∙ ap (λ (before : SoFar). after_all n before others.all) first.result;
-    }
+module _ (forms : FormsAreExact) (fields : FieldsAreExact) (names : SignsAndNamesTell) (b : Bounds) where
+  record_takes : (s : SoFar) (ts rest : List Token) (x : SoFar) → s.uses ≤ b.uses → record_at b s ts ≡ Ok (x, rest) → IsRead b s ts x rest
+  record_takes s ts rest x within e =
+      let h = bind_ok (head_at ts) (λ head. used s head.0 (uses_from b s head.0.kind none_gathered head.1)) (x, rest) e in
+      let u = bind_ok (uses_from b s h.0.0.kind none_gathered h.0.1) (λ g. Ok (with_record s h.0.0 g.0, g.1)) (x, rest) h.2 in
+      let head = (head_is_exact fields names).takes ts h.0.1 h.0.0 h.1 in
+      let taken = uses_takes forms fields b s h.0.0.kind none_gathered h.0.1 u.0.1 u.0.0 (omega (arith, within)) u.1 in
+      let made : Record = record { head = h.0.0; uses = taken.taken } in
+      let pair = ok_is (with_record s h.0.0 u.0.0, u.0.1) (x, rest) u.2 in
+      record {
+        one = made;
+        spelled = subst (λ (r : List Token). Begins ts (spell_record made) r) (ap (λ (q : SoFar × List Token). q.1) pair) (Begins-then ts (spell_head h.0.0) h.0.1 (spell_uses taken.taken) u.0.1 head.0 taken.spelled);
+        fits = record { shaped = head.1; uses = taken.fits; few = omega (arith, taken.few) };
+        result = sym (ap (λ (q : SoFar × List Token). q.0) pair) ∙ ap (with_record s h.0.0) taken.result;
+      }
 
-pub records_again : (rs : List Record) (most n : ℕ) (s : SoFar) (rest : List (List ℕ)) → FitAll most n s rs → records_from (length rs) most n s (flat_map spell_record rs ++ rest) ≡ Some (after_all n s rs, rest)
-unfolding records_from
-records_again [] most n s rest fit = refl
-records_again (r ∷ rs) most n s rest fit =
-    ap (records_from (suc (length rs)) most n s) (append_assoc (spell_record r) (flat_map spell_record rs) rest)
-    ∙ rw (record_again most n s r (flat_map spell_record rs ++ rest) fit.0) (records_again rs most n (after n s r) rest fit.1)
+  record_again : (s : SoFar) (r : Record) (ts rest : List Token) → Begins ts (spell_record r) rest → FitsRecord b s r → record_at b s ts ≡ Ok (after b.records s r, rest)
+  record_again s r ts rest begins fits =
+      let split = Begins-split ts (spell_head r.head) (spell_uses r.uses) rest begins in
+      rw ((head_is_exact fields names).again ts split.0 r.head split.1 fits.shaped, uses_again forms fields b s r.head.kind names r.uses none_gathered split.0 rest split.2 fits.uses (omega (arith, fits.few))) refl
+
+  -- ---- all records
+
+  pub records_takes : (count : ℕ) (s : SoFar) (ts rest : List Token) (x : SoFar) → s.uses ≤ b.uses → many_from (record_at b) s count ts ≡ Ok (x, rest) → AreRead b count s ts x rest
+  records_takes zero s ts rest x within e =
+      let pair = ok_is (s, ts) (x, rest) e in
+      record { all = []; many = refl; spelled = ap (λ (q : SoFar × List Token). q.1) pair; fit = tt; result = sym (ap (λ (q : SoFar × List Token). q.0) pair) }
+  records_takes (suc count) s ts rest x within e =
+      let r = bind_ok (record_at b s ts) (λ r. many_from (record_at b) r.0 count r.1) (x, rest) e in
+      let first = record_takes s ts r.0.1 r.0.0 within r.1 in
+      let fewer = after-uses b.records s first.one in
+      let uses : r.0.0.uses ≡ s.uses + length first.one.uses = ap (λ (z : SoFar). z.uses) first.result ∙ fewer in
+      let others = records_takes count r.0.0 r.0.1 rest x (omega (arith, uses, first.fits.few)) r.2 in
+      record {
+        all = first.one ∷ others.all;
+        many = ap suc others.many;
+        spelled = Begins-then ts (spell_record first.one) r.0.1 (flat_map spell_record others.all) rest first.spelled others.spelled;
+        fit = (first.fits, subst (λ (before : SoFar). FitAll b before others.all) first.result others.fit);
+        result = others.result ∙ ap (λ (before : SoFar). after_all b.records before others.all) first.result;
+      }
+
+  pub records_again : (rs : List Record) (s : SoFar) (ts rest : List Token) → Begins ts (flat_map spell_record rs) rest → FitAll b s rs → many_from (record_at b) s (length rs) ts ≡ Ok (after_all b.records s rs, rest)
+  records_again [] s ts rest begins fit = rw begins refl
+  records_again (r ∷ rs) s ts rest begins fit =
+      let split = Begins-split ts (spell_record r) (flat_map spell_record rs) rest begins in
+      rw (record_again s r ts split.0 split.1 fit.0) (records_again rs (after b.records s r) split.0 rest split.2 fit.1)

@@ -3,7 +3,14 @@ pub mod PlainRecords
 pub mod Sound
 pub mod Reads
 pub mod Marks
-pub mod Fields
+pub mod Seen
+pub mod Many
+pub mod HeadReading
+pub mod HeadLeft
 pub mod RecordReading
-pub mod Readers
+pub mod RecordLeft
+pub mod SectionReading
+pub mod LocationsLeft
+pub mod FileReading
+pub mod Giving
 pub mod ReadingLaws

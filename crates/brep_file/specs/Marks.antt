@@ -1,6 +1,6 @@
 -- Marks: one for each record of a file, by its number.
 use Rattle.std.specs.Prelude.{ℕ, ◌-◌, Bool, false, not, List, filter, slice_index_or}
-use Rattle.brep_file.specs.declared.file.FileUse.{FileUse}
+use Rattle.brep_file.specs.declared.uses.FileUse.{FileUse}
 
 -- the mark of a number
 abbrev pub mark_of : List Bool → ℕ → Bool

@@ -1,64 +1,22 @@
--- Reading the records, the root use and the whole file from the texts of its tokens.
-use Rattle.std.specs.Prelude.{ℕ, zero, suc, max, ◌+◌, ◌-◌, ◌≤◌, ◌==◌, ◌&&◌, Bool, true, false, if◌then◌else◌, nat_le, nat_lt, List, [], ◌∷◌, ◌++◌, length, slice_get, Option, Some, None, codes}
-use Rattle.std.specs.List.{flat_map}
+-- Reading the records of a file one after another, and the root use.
+use Rattle.std.specs.Prelude.{ℕ, suc, max, ◌+◌, ◌-◌, ◌&&◌, Bool, if◌then◌else◌, nat_le, nat_lt, nat_eq, List, [], ◌∷◌, ◌++◌, length, slice_get, Option, Some, None, Result, Ok, Err, codes}
+use Rattle.std.specs.Cmp.Lexicographic.{pointwise}
+use Rattle.std.specs.Option.{option_map}
+use Rattle.brep_tokens.specs.Forms.{number_of}
+use Rattle.brep_tokens.specs.declared.text.Token.{Token}
+use Rattle.brep_tokens.specs.declared.fault.ReadCode.TheVariants as faults
+use Rattle.entry_readers.specs.Reading.{Read, Refusal, fault, more, ◌>>=◌, at_token, ranged_at, refused}
 use Rattle.orientation.specs.declared.turn.Turn.{Turn}
 use Rattle.orientation.specs.declared.kind.Kind.{Kind}
-use Rattle.orientation.specs.Kinds.{is_below}
-use Rattle.brep_file.specs.declared.file.FileUse.{FileUse}
-use Rattle.brep_file.specs.declared.file.Head.{Head}
-use Rattle.brep_file.specs.declared.file.Record.{Record}
-use Rattle.brep_file.specs.declared.file.File.{File}
-use Rattle.brep_tokens.specs.Tokens.{tokens_of}
-use Rattle.brep_file.specs.Reads.{texts_of}
-use Rattle.brep_file.specs.Fields.{Read, ◌>>=◌, is_text, token_at, word_at, number_at, head_at, use_of}
-
--- how many records, and how many uses of records together, a file may have
-pub record Limits : Type 0 where
-  pub records : ℕ
-  pub uses : ℕ
-
-pub record IsWithin (limits : Limits) (f : File) : Type 0 where
-  pub records : length f.records ≤ limits.records
-  pub uses : length (flat_map (λ r. r.uses) f.records) ≤ limits.uses
-
--- what later records need to know of a record: its kind, and the depth of its tree
-pub record Seen : Type 0 where
-  pub kind : Kind
-  pub depth : ℕ
-
--- the uses of a record so far, and the greatest depth of the trees that they name
-pub record Gathered : Type 0 where
-  pub uses : List FileUse
-  pub depth : ℕ
-
-abbrev pub none_gathered : Gathered
-none_gathered = record { uses = []; depth = 0 }
-
--- the record above, of n, that a number names
-abbrev pub seen_at : ℕ → List Seen → ℕ → Option Seen
-seen_at n seen number = if nat_le number n then slice_get seen (n - number) else None
-
--- a use more, of a child that fits
-abbrev pub gathered : Gathered → Turn × ℕ → Seen → Gathered
-gathered g u child = record { uses = g.uses ++ record { turn = u.0; number = u.1; location = 0 } ∷ []; depth = max g.depth child.depth }
-
--- a use whose sign and number are this text: the location 0, and a record above, of a kind in order, that isn't as deep as a tree may be
-unfoldable pub use_from : ℕ → Kind → List Seen → Gathered → List ℕ → List (List ℕ) → Read Gathered
-use_from n parent seen g text ts = do
-  u ← use_of text
-  location ← word_at (codes "0") ts
-  child ← seen_at n seen u.1
-  if is_below child.kind parent && nat_lt child.depth 512 then Some (gathered g u child, location.1) else None
-
-abbrev pub is_star : List ℕ → Bool
-is_star text = is_text text (codes "*")
-
--- uses to the `*` after the last, which is one of the next tokens of so many uses
-unfoldable pub uses_from : ℕ → ℕ → Kind → List Seen → Gathered → List (List ℕ) → Read Gathered
-uses_from zero n parent seen g ts = None
-uses_from (suc room) n parent seen g ts = do
-  t ← token_at ts
-  if is_star t.0 then Some (g, t.1) else (use_from n parent seen g t.0 t.1 >>= λ r. uses_from room n parent seen r.0 r.1)
+use Rattle.orientation.specs.Kinds.{is_below, rank_of}
+use Rattle.orientation.specs.Turns.{turn_of}
+use Rattle.brep_file.specs.declared.uses.FileUse.{FileUse}
+use Rattle.brep_file.specs.declared.head.Head.{Head}
+use Rattle.brep_file.specs.declared.records.Record.{Record}
+use Rattle.brep_file.specs.HeadReading.{head_at}
+use Rattle.brep_file.specs.Many.{many_from}
+use Rattle.brep_file.specs.Seen.{Seen}
+use Rattle.brep_file.specs.declared.reader.state.Named.{Named}
 
 -- the records so far, what is to be known of them, and how many uses they have
 pub record SoFar : Type 0 where
@@ -69,6 +27,14 @@ pub record SoFar : Type 0 where
 abbrev pub nothing_read : SoFar
 nothing_read = record { records = []; seen = []; uses = 0 }
 
+-- the uses of a record so far, and the greatest depth of the trees that they name
+pub record Gathered : Type 0 where
+  pub uses : List FileUse
+  pub depth : ℕ
+
+abbrev pub none_gathered : Gathered
+none_gathered = record { uses = []; depth = 0 }
+
 -- a record more
 abbrev pub with_record : SoFar → Head → Gathered → SoFar
 with_record s head g = record {
@@ -77,65 +43,91 @@ with_record s head g = record {
   uses = s.uses + length g.uses;
 }
 
-unfoldable pub record_at : ℕ → ℕ → SoFar → List (List ℕ) → Read SoFar
-record_at most n s ts = do
-  head ← head_at ts
-  uses ← uses_from (suc (most - s.uses)) n head.0.kind s.seen none_gathered head.1
-  Some (with_record s head.0 uses.0, uses.1)
+-- how many locations and records there are, and how many uses the records may have together
+pub record Bounds : Type 0 where
+  pub locations : ℕ
+  pub records : ℕ
+  pub uses : ℕ
+
+-- a turn's sign joined to a number
+abbrev pub signed_number : Option Turn → Option ℕ → Option (Turn × ℕ)
+signed_number None n = None
+signed_number (Some turn) n = option_map (λ k. (turn, k)) n
+
+abbrev pub use_of : List ℕ → Option (Turn × ℕ)
+use_of [] = None
+use_of (b ∷ bs) = signed_number (turn_of b) (number_of bs)
+
+-- the number's place among those that were seen: the record after them is next, of n
+abbrev pub if_above : ℕ → List Seen → Token → ℕ → Option Seen → Result Seen Refusal
+if_above n seen t number None = Err (fault (at_token faults.NotAbove number (n - length seen) t))
+if_above n seen t number (Some child) = Ok child
+
+abbrev pub above_at : ℕ → List Seen → Token → ℕ → Result Seen Refusal
+above_at n seen t number =
+    if nat_le 1 number && nat_le number n then if_above n seen t number (slice_get seen (n - number))
+    else Err (fault (at_token faults.IndexOutOfRange number n t))
+
+-- a child that fits: its kind is in order, it isn't as deep as a tree may be, and the uses aren't too many
+abbrev pub fitting : Bounds → Kind → ℕ → Token → Seen → Result Seen Refusal
+fitting b parent uses t child =
+    if is_below child.kind parent then
+    (if nat_lt child.depth 512 then
+    (if nat_lt uses b.uses then Ok child else Err (fault (at_token faults.TooMany (suc uses) b.uses t)))
+    else Err (fault (at_token faults.TooDeep (suc child.depth) 512 t)))
+    else Err (fault (at_token faults.KindOrder (rank_of child.kind) (rank_of parent) t))
+
+abbrev pub named : Turn × ℕ → Seen → Named
+named u child = record { turn = u.0; number = u.1; child = child }
+
+-- what a token names in a record of a kind, after so many uses
+abbrev pub named_at : Bounds → List Seen → Kind → ℕ → Token → Option (Turn × ℕ) → Result Named Refusal
+named_at b seen parent uses t None = Err (refused faults.UseExpected t)
+named_at b seen parent uses t (Some u) = above_at b.records seen t u.1 >>= fitting b parent uses t >>= λ child. Ok (named u child)
+
+-- a use more, with its location
+abbrev pub gathered : Gathered → Named → ℕ → Gathered
+gathered g u location = record {
+  uses = g.uses ++ record { turn = u.turn; number = u.number; location = location } ∷ [];
+  depth = max g.depth u.child.depth;
+}
+
+abbrev pub is_star : List ℕ → Bool
+is_star text = pointwise nat_eq text (codes "*")
+
+-- The uses of a record of a kind, and the `*` after the last: each a sign with a number, and a location's number.
+module _ (b : Bounds) (s : SoFar) (parent : Kind) where
+  abbrev mutual
+    pub uses_from : Gathered → List Token → Read Gathered
+    uses_from g [] = Err more
+    uses_from g (t ∷ ts) = if is_star t.text then Ok (g, ts) else (named_at b s.seen parent (s.uses + length g.uses) t (use_of t.text) >>= λ u. located g u ts)
+
+    -- after the sign and the number
+    pub located : Gathered → Named → List Token → Read Gathered
+    located g u [] = Err more
+    located g u (t ∷ ts) = ranged_at 0 b.locations (t ∷ ts) >>= λ location. uses_from (gathered g u location.0) ts
+
+-- a record more, of which the uses are read
+abbrev pub used : SoFar → Head → Read Gathered → Read SoFar
+used s head read = read >>= λ g. Ok (with_record s head g.0, g.1)
+
+abbrev pub record_at : Bounds → SoFar → List Token → Read SoFar
+record_at b s ts = head_at ts >>= λ head. used s head.0 (uses_from b s head.0.kind none_gathered head.1)
 
 -- so many records more
-unfoldable pub records_from : ℕ → ℕ → ℕ → SoFar → List (List ℕ) → Read SoFar
-records_from zero most n s ts = Some (s, ts)
-records_from (suc count) most n s ts = record_at most n s ts >>= λ r. records_from count most n r.0 r.1
+abbrev pub records_from : Bounds → SoFar → ℕ → List Token → Read SoFar
+records_from b s n ts = many_from (record_at b) s n ts
 
--- a section without entries
-unfoldable pub empty_section_at : List ℕ → List (List ℕ) → Read (Unit {0})
-empty_section_at word ts = word_at word ts >>= λ w. word_at (codes "0") w.1
+-- ---- the root use
 
-unfoldable pub tables_at : List (List ℕ) → Read (Unit {0})
-tables_at ts = do
-  locations ← empty_section_at (codes "Locations") ts
-  curve2ds ← empty_section_at (codes "Curve2ds") locations.1
-  curves ← empty_section_at (codes "Curves") curve2ds.1
-  polygons ← empty_section_at (codes "Polygon3D") curves.1
-  polygons_on ← empty_section_at (codes "PolygonOnTriangulations") polygons.1
-  surfaces ← empty_section_at (codes "Surfaces") polygons_on.1
-  empty_section_at (codes "Triangulations") surfaces.1
+abbrev pub root_named : ℕ → Token → Option (Turn × ℕ) → Result (Turn × ℕ) Refusal
+root_named n t None = Err (refused faults.UseExpected t)
+root_named n t (Some u) = if nat_le 1 u.1 && nat_le u.1 n then Ok u else Err (fault (at_token faults.IndexOutOfRange u.1 n t))
 
--- the number of the records, which is within the limit
-unfoldable pub count_at : ℕ → List (List ℕ) → Read ℕ
-count_at most ts = do
-  word ← word_at (codes "TShapes") ts
-  count ← number_at word.1
-  if nat_le count.0 most then Some (count.0, count.1) else None
+abbrev pub root_located : ℕ → Turn × ℕ → List Token → Read FileUse
+root_located locations u [] = Err more
+root_located locations u (t ∷ ts) = ranged_at 0 locations (t ∷ ts) >>= λ l. Ok (record { turn = u.0; number = u.1; location = l.0 }, ts)
 
--- the root use, of one of n records
-unfoldable pub root_at : ℕ → List (List ℕ) → Read FileUse
-root_at n ts = do
-  t ← token_at ts
-  u ← use_of t.0
-  location ← word_at (codes "0") t.1
-  if nat_le 1 u.1 && nat_le u.1 n then Some (record { turn = u.0; number = u.1; location = 0 }, location.1) else None
-
--- nothing, or a closing `0`
-abbrev pub is_end : List (List ℕ) → Bool
-is_end [] = true
-is_end (t ∷ []) = is_text t (codes "0")
-is_end (t ∷ u ∷ ts) = false
-
--- the file of version 1 that the texts spell, if they spell one within the limits
-unfoldable pub file_at : Limits → List (List ℕ) → Option File
-file_at limits ts = do
-  tables ← tables_at ts
-  n ← count_at limits.records tables.1
-  read ← records_from n.0 limits.uses n.0 nothing_read n.1
-  root ← root_at n.0 read.1
-  if is_end root.1 then Some (record { version = 1; records = read.0.records; root = root.0 }) else None
-
--- the limits of the program
-abbrev pub file_limits : Limits
-file_limits = record { records = 2097152; uses = 16777216 }
-
--- the file that the bytes spell, if it is read
-unfoldable pub file_of : List ℕ → Option File
-file_of bytes = tokens_of bytes >>= λ t. if t.0 == 1 then file_at file_limits (texts_of t.1) else None
+abbrev pub root_at : ℕ → ℕ → List Token → Read FileUse
+root_at locations n [] = Err more
+root_at locations n (t ∷ ts) = root_named n t (use_of t.text) >>= λ u. root_located locations u ts

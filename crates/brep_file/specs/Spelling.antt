@@ -4,12 +4,16 @@ use Rattle.std.specs.List.{flat_map}
 use Rattle.std.specs.Fmt.{decimal}
 use Rattle.orientation.specs.Turns.{sign_of}
 use Rattle.orientation.specs.Kinds.{name_of}
-use Rattle.brep_file.specs.declared.file.FileUse.{FileUse}
-use Rattle.brep_file.specs.declared.file.Flags.{Flags}
-use Rattle.brep_file.specs.declared.file.Payload.{Payload}
-use Rattle.brep_file.specs.declared.file.Payload.TheVariants.{Vertex, Nothing}
-use Rattle.brep_file.specs.declared.file.Head.{Head}
-use Rattle.brep_file.specs.declared.file.Record.{Record}
+use Rattle.location_table.specs.Locations.{spell_location}
+use Rattle.curve_tables.specs.Spelling.{spelling2, spelling3}
+use Rattle.surface_tables.specs.Spelling.{spell_surface}
+use Rattle.mesh_tables.specs.Spelling.{spell_polygon, spell_polygon_on, spell_mesh}
+use Rattle.brep_file.specs.declared.uses.FileUse.{FileUse}
+use Rattle.brep_file.specs.declared.head.Flags.{Flags}
+use Rattle.brep_file.specs.declared.head.Payload.{Payload}
+use Rattle.brep_file.specs.declared.head.Payload.TheVariants.{Vertex, Nothing}
+use Rattle.brep_file.specs.declared.head.Head.{Head}
+use Rattle.brep_file.specs.declared.records.Record.{Record}
 use Rattle.brep_file.specs.declared.file.File.{File}
 
 -- a use: its sign joined to the record's number, and the location's number
@@ -37,14 +41,19 @@ abbrev pub spell_record : Record → List (List ℕ)
 spell_record r = spell_head r.head ++ (flat_map spell_use r.uses ++ codes "*" ∷ [])
 
 -- a section: its word, the count of its entries, and the entries
-abbrev pub section : List ℕ → ℕ → List (List ℕ) → List (List ℕ)
-section word count entries = word ∷ decimal count ∷ entries
+abbrev pub section : {A : Type 0} → List ℕ → (A → List (List ℕ)) → List A → List (List ℕ)
+section word spell entries = word ∷ decimal (length entries) ∷ flat_map spell entries
 
--- the sections before the records, which are empty
-abbrev pub spell_tables : List (List ℕ)
-spell_tables =
-    section (codes "Locations") 0 (section (codes "Curve2ds") 0 (section (codes "Curves") 0 (section (codes "Polygon3D") 0
-    (section (codes "PolygonOnTriangulations") 0 (section (codes "Surfaces") 0 (section (codes "Triangulations") 0 []))))))
+-- the sections before the records
+abbrev pub spell_tables : File → List (List ℕ)
+spell_tables f =
+    section (codes "Locations") spell_location f.locations
+    ++ (section (codes "Curve2ds") spelling2 f.curve2s
+    ++ (section (codes "Curves") spelling3 f.curves
+    ++ (section (codes "Polygon3D") spell_polygon f.polygons
+    ++ (section (codes "PolygonOnTriangulations") spell_polygon_on f.polygons_on
+    ++ (section (codes "Surfaces") spell_surface f.surfaces
+    ++ section (codes "Triangulations") spell_mesh f.meshes)))))
 
 abbrev pub spell_file : File → List (List ℕ)
-spell_file f = spell_tables ++ (section (codes "TShapes") (length f.records) (flat_map spell_record f.records) ++ spell_use f.root)
+spell_file f = spell_tables f ++ (section (codes "TShapes") spell_record f.records ++ spell_use f.root)

@@ -2,12 +2,18 @@
 #![tactic(auto)]
 
 mod file;
+mod head;
 pub mod laws;
 mod marks;
 mod reader;
-mod stop;
+mod records;
+#[cfg(test)]
+mod tests;
+mod uses;
 
-pub use file::{File, FileUse, FileUses, Flags, Head, Payload, Record, Records, VertexData};
+pub use file::File;
+pub use head::{Flags, Head, Payload, VertexData};
 pub use marks::is_marked;
 pub use reader::read_file;
-pub use stop::Stop;
+pub use records::{Record, Records};
+pub use uses::{FileUse, FileUses};

@@ -1,10 +1,14 @@
-//! Reads a file from its bytes.
+//! Reads a file token by token.
 
-mod fields;
 mod head;
+mod heading;
+mod locations;
+mod pull;
+mod record;
 mod records;
+mod root;
+mod sections;
 mod state;
-mod tables;
 mod uses;
 mod whole;
 

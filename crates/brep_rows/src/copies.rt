@@ -25,7 +25,7 @@ fn whole_output(
 }
 
 /// The copy of a text, which is done, whole and ended.
-fn copy_of(alloc: Global, text: &str, piece: usize) -> Result<String, Fail>
+pub(crate) fn copy_of(alloc: Global, text: &str, piece: usize) -> Result<String, Fail>
     requires { 0 < piece }
 {
     let bytes = text.as_bytes().to_vec(alloc)?;

@@ -6,8 +6,12 @@ mod copies;
 #[cfg(test)]
 mod faults;
 #[cfg(test)]
+mod locations;
+#[cfg(test)]
 mod refusals;
 #[cfg(test)]
 mod rewrites;
 #[cfg(test)]
 mod runs;
+#[cfg(test)]
+mod tables;

@@ -24,7 +24,7 @@ fn whole(alloc: Global, desk: &MemoryDesk, name: &str) -> Result<String, Fail> {
 }
 
 /// What a rewrite that is done writes: the file and the history.
-fn rewritten(alloc: Global, text: &str, script: &str) -> Result<(String, String), Fail> {
+pub(crate) fn rewritten(alloc: Global, text: &str, script: &str) -> Result<(String, String), Fail> {
     let mut desk = desk_for(alloc, text, script)?;
     if ran(alloc, &WORDS, &mut desk)? != Outcome::Done {
         return Err(Fail::from("the rewrite isn't done"));

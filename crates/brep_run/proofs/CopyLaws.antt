@@ -66,7 +66,7 @@ module _ (are : (g : File) → IsSound g → RecordsAreTrees (plain_records g)) 
       let first = whole.spelled in
       let shared : SharesEqualTrees root first.0 =
       equal_trees_share first.0 root (are first.0 first.1.sound)
-      (subst (λ n. IsNumberOf n first.0.root.number) (sym (length-map first.0.records (λ r. map plain_use r.uses))) first.1.sound.root)
+      (subst (λ n. IsNumberOf n first.0.root.number) (sym (length-map first.0.records (λ r. map (plain_use first.0.locations) r.uses))) first.1.sound.root)
       first.2.shared.apart in
       subst (λ h. SharesEqualTrees root h) (whole.one first.0 g first.1 spells) shared
 

@@ -1,11 +1,20 @@
 -- The expansion of a sound file can be written.
-use Rattle.std.proofs.Common.{◌≡◌, ◌<◌, ◌≤◌, ◌-◌, refl, sym, ◌∙◌, ap, subst, arith, inr}
-use Rattle.std.specs.Prelude.{ℕ, ◌^◌, Bool, true, false, if◌then◌else◌, Option, Some, List, map, length, Contains, slice_get}
+use Rattle.std.proofs.Common.{◌≡◌, ◌<◌, ◌≤◌, ◌-◌, refl, sym, ◌∙◌, ap, subst, arith, inl, inr}
+use Rattle.std.specs.Prelude.{ℕ, ◌^◌, Bool, true, false, if◌then◌else◌, Option, Some, List, [], ◌∷◌, map, length, Contains, slice_get}
+use Rattle.std.specs.List.{flat_map}
 use Rattle.std.specs.Option.{option_map_or}
 use Rattle.std.proofs.lemmas.List.{length-map}
-use Rattle.std.proofs.lemmas.List.Elements.{All-map, All-contains, All-weaker}
+use Rattle.std.proofs.lemmas.List.Elements.{All-map, All-contains, All-weaker, Contains-append_cases}
 use Rattle.std.proofs.lemmas.Option.{same_Some}
 use Rattle.orientation.specs.Kinds.{IsBelow}
+use Rattle.location_words.specs.declared.pair.Pair.{Pair}
+use Rattle.location_table.specs.Laws.{PlacesHaveWords}
+use Rattle.location_table.specs.Words.{datums_of, words_of, word_of_place}
+use Rattle.location_table.specs.Written.{IsWordOver}
+use Rattle.written_locations.specs.Further.{further_words}
+use Rattle.written_locations.proofs.Words.{further-few, further-distinct, further-from}
+use Rattle.written_locations.proofs.Meeting.{word-member}
+use Rattle.written_locations.proofs.Sections.{length-written}
 use Rattle.expansion_laws.specs.Trees.{Tree, Use, Uses, node, no_use, a_use, a_single, uses, origin}
 use Rattle.expansion_laws.specs.Equality.{tree_eq}
 use Rattle.expansion_laws.specs.Measures.{subtrees}
@@ -14,14 +23,18 @@ use Rattle.expansion_laws.specs.Sharing.{relabelled, relabelled_uses, use_with_o
 use Rattle.expansion_laws.specs.Written.{flat}
 use Rattle.expansion_laws.specs.Fewest.{NoFileHasFewer}
 use Rattle.expansion_laws.specs.Walk.{RecordsAreTrees}
-use Rattle.expansion_laws.proofs.Members.{Contains-map_cases, at_place}
-use Rattle.brep_file.specs.declared.file.FileUse.{FileUse}
-use Rattle.brep_file.specs.declared.file.Record.{Record}
+use Rattle.expansion_laws.specs.Written.{IsWritten}
+use Rattle.expansion_laws.proofs.Members.{Contains-map_cases, Contains-flat_map_cases, Contains-cases, Contains-none, at_place}
+use Rattle.brep_file.specs.declared.uses.FileUse.{FileUse}
+use Rattle.brep_file.specs.declared.records.Record.{Record}
 use Rattle.brep_file.specs.declared.file.File.{File}
-use Rattle.brep_file.specs.PlainRecords.{record_of, plain_use, plain_records, tree_of_record, expansion_of}
+use Rattle.brep_file.specs.PlainRecords.{record_of, plain_use, plain_records, tree_of_record, expansion_of, plain_root}
 use Rattle.brep_file.specs.Sound.{IsUse, IsSound}
 use Rattle.brep_run.specs.Dress.{head_for, made_head, rebuilt}
+use Rattle.brep_run.specs.WrittenFile.{locations_under, words_of_data, words_of_tree, words_under}
 use Rattle.brep_run.specs.Copies.{CanBeWritten}
+use Rattle.brep_run.proofs.ShortTokens.{each-contains}
+use Rattle.brep_run.proofs.WrittenSound.{no-data_words}
 use Rattle.brep_run.proofs.NumberedRecords.{NamesAboveIts, map-from_end, names_from-numbers}
 
 -- a tree relabelled by its own origins is the tree
@@ -40,7 +53,7 @@ kind-chosen false r = refl
 
 module _ (f : File) where
   abbrev pub uses_of_record : Record → List NumberedUse
-  uses_of_record r = map plain_use r.uses
+  uses_of_record r = map (plain_use f.locations) r.uses
 
   pub count-plain : length (plain_records f) ≡ length f.records
   count-plain = length-map f.records uses_of_record
@@ -64,12 +77,12 @@ module _ (f : File) where
         let at = record-at k number in
         let named = (sound.records k at.0 number at.1).uses in
         let here : NamesAboveIts (length f.records) k (uses_of_record at.0) =
-        All-map (λ (v : NumberedUse). (k < v.number) × (v.number ≤ length f.records)) plain_use at.0.uses
+        All-map (λ (v : NumberedUse). (k < v.number) × (v.number ≤ length f.records)) (plain_use f.locations) at.0.uses
         (All-weaker (IsUse f k at.0.head.kind) (λ u. (k < u.number) × (u.number ≤ length f.records)) (λ u is. (is.above, is.named)) at.0.uses named) in
         subst (λ j. NamesAboveIts j k us) (sym count-plain)
         (subst (NamesAboveIts (length f.records) k) (same_Some (uses_of_record at.0) us (sym (plain-at k at.0 at.1) ∙ e)) here)
 
-    pub file-sound : IsFile (plain_records f) (plain_use f.root)
+    pub file-sound : IsFile (plain_records f) (plain_root f)
     file-sound = record {
       names_above = names_from-numbers (plain_records f) names-sound;
       names_root = subst (λ j. IsNumberOf j f.root.number) (sym count-plain) sound.root;
@@ -92,7 +105,7 @@ module _ (f : File) where
         pub is_own : record_of f (origin x) ≡ Some own
         pub file_use : FileUse
         pub is_use : IsUse f (origin x) own.head.kind file_use
-        pub is : expanded 1 (trees_of_file (plain_records f)) (plain_use file_use) ≡ u
+        pub is : expanded 1 (trees_of_file (plain_records f)) (plain_use f.locations file_use) ≡ u
 
       comes-from : (x : Tree) (u : Use) → Stands x → Contains (uses x) u → Comes x u
       comes-from x u stands m =
@@ -100,7 +113,7 @@ module _ (f : File) where
           let listed : uses x ≡ map (expanded 1 (trees_of_file (plain_records f))) (uses_of_record at.0) =
           ap uses stands.tree ∙ walk.same_uses (origin x) (uses_of_record at.0) (subst (λ j. IsNumberOf j (origin x)) (sym count-plain) stands.number) (plain-at (origin x) at.0 at.1) in
           let plain = Contains-map_cases (expanded 1 (trees_of_file (plain_records f))) u (uses_of_record at.0) (subst (λ l. Contains l u) listed m) in
-          let from = Contains-map_cases plain_use plain.0 at.0.uses plain.1 in
+          let from = Contains-map_cases (plain_use f.locations) plain.0 at.0.uses plain.1 in
           record {
             own = at.0;
             is_own = at.1;
@@ -125,17 +138,52 @@ module _ (f : File) where
       count-flat fewest =
           let same : use_with_origins (λ k. k) (expansion_of f) ≡ expansion_of f =
           λ i. a_single (expansion_of f).turn (expansion_of f).word (own-origins (expansion_of f).tree i) in
-          let low = fewest (plain_records f) (plain_use f.root) (λ k. k) file-sound same in
+          let low = fewest (plain_records f) (plain_root f) (λ k. k) file-sound same in
           let high = sound.countable in
           let count = count-plain in
           omega (arith, low, high, count)
 
-      pub expansion-writable : NoFileHasFewer (expansion_of f) → CanBeWritten f (expansion_of f)
-      expansion-writable fewest = record {
-        origins = λ x m. inr (stands-below x m).number;
-        in_order = in-order;
-        words = λ x u m k. ap (λ (v : Use). v.word) (sym (comes-from x u (stands-below x m) k).is);
-        root_word = refl;
-        shallow = sound.depths f.root.number sound.root;
-        countable = count-flat fewest;
-      }
+      module _ (places : PlacesHaveWords) (written : IsWritten (expansion_of f) (flat (expansion_of f).tree)) where
+        place-over : (k : ℕ) → k ≤ length f.locations → IsWordOver (length (datums_of f.locations)) (word_of_place f.locations k)
+        place-over k le =
+            each-contains (IsWordOver (length (datums_of f.locations))) (words_of f.locations) (word_of_place f.locations k)
+            (places.held f.locations sound.tables.locations) (word-member f.locations k le)
+
+        -- the words under the root are words of places
+        use-place : (x : Tree) (u : Use) → Contains (subtrees (expansion_of f).tree) x → Contains (uses x) u → (k : ℕ) × (k ≤ length f.locations) × (word_of_place f.locations k ≡ u.word)
+        use-place x u m k = (let c = comes-from x u (stands-below x m) k in (c.file_use.location, c.is_use.location, ap (λ (v : Use). v.word) c.is))
+
+        word-of_place : (w : List Pair) → Contains (words_under f (expansion_of f)) w → Contains (words_of f.locations) w
+        word-of_place w m = elim (Contains-append_cases (flat_map (words_of_tree f) (flat (expansion_of f).tree)) ((expansion_of f).word ∷ []) w m) [
+          | inl k ↦ (let from = Contains-flat_map_cases (words_of_tree f) w (flat (expansion_of f).tree) k in
+              elim (Contains-append_cases (words_of_data (head_for f from.0).payload) (map (λ (v : Use). v.word) (uses from.0)) w from.2) [
+                | inl none ↦ absurd (no-data_words (head_for f from.0).payload w none)
+                | inr l ↦ (let used = Contains-map_cases (λ (v : Use). v.word) w (uses from.0) l in
+                    let place = use-place from.0 used.0 (written.lists.stand from.0 from.1) used.1 in
+                    subst (Contains (words_of f.locations)) (place.2 ∙ used.2) (word-member f.locations place.0 place.1))
+              ])
+          | inr k ↦ elim (Contains-cases (expansion_of f).word w [] k) [
+            | inl same ↦ subst (Contains (words_of f.locations)) same (word-member f.locations f.root.location sound.root_location)
+            | inr none ↦ absurd (Contains-none w none)
+          ]
+        ]
+
+        few-locations : length (locations_under f (expansion_of f)) < 10 ^ 18
+        few-locations =
+            let words : List (List Pair) = words_under f (expansion_of f) in
+            let long = length-written (datums_of f.locations) (further_words words) in
+            let less = further-few f.locations (further_words words) (further-distinct words)
+            (λ w m. (let from = further-from words w m in (word-of_place w from.0, from.1))) in
+            let few = sound.tables.countable in
+            omega (arith, long, less, few)
+
+        pub expansion-writable : NoFileHasFewer (expansion_of f) → CanBeWritten f (expansion_of f)
+        expansion-writable fewest = record {
+          origins = λ x m. inr (stands-below x m).number;
+          in_order = in-order;
+          words = λ x u m k. (let place = use-place x u m k in subst (IsWordOver (length (datums_of f.locations))) place.2 (place-over place.0 place.1));
+          root_word = place-over f.root.location sound.root_location;
+          few_words = few-locations;
+          shallow = sound.depths f.root.number sound.root;
+          countable = count-flat fewest;
+        }

@@ -1,5 +1,6 @@
 pub mod NumberedRecords
 pub mod LayoutLemmas
+pub mod ShortTokens
 pub mod WrittenSound
 pub mod CopyLemmas
 pub mod Standing
@@ -11,6 +12,8 @@ pub mod LineTexts
 pub mod CompletedTrees
 pub mod Numbering
 pub mod Visits
+pub mod LocatedTexts
+pub mod LocationLoops
 pub mod WrittenTexts
 pub mod KeptLists
 pub mod RemovalTrees
@@ -30,3 +33,4 @@ pub mod HistoryLaws
 pub mod RewriteLaws
 pub mod WordLaws
 pub mod Reading
+pub mod ReadFiles

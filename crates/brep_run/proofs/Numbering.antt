@@ -11,8 +11,8 @@ use Rattle.expansion_laws.specs.Trees.{uses, uses_of}
 use Rattle.expansion_laws.specs.Equality.{tree_eq}
 use Rattle.expansion_laws.specs.Expansion.{IsNumberOf, expanded, trees_of_file}
 use Rattle.expansion_laws.specs.Written.{completed, completed_uses, number_in}
-use Rattle.brep_file.specs.declared.file.FileUse.{FileUse}
-use Rattle.brep_file.specs.declared.file.Record.{Record}
+use Rattle.brep_file.specs.declared.uses.FileUse.{FileUse}
+use Rattle.brep_file.specs.declared.records.Record.{Record}
 use Rattle.brep_file.specs.declared.file.File.{File}
 use Rattle.brep_file.specs.PlainRecords.{record_of, plain_use, plain_records, tree_of_record}
 use Rattle.brep_run.specs.Completion.{NumbersTell, ArePlaced, Completes, CompletesUses, use_of_tree, new_number}
@@ -23,7 +23,7 @@ by_test {P} b holds fails = elim b as (λ v. b ≡ v → P) [ true ↦ holds | f
 
 -- ---- numbers tell trees apart
 pub plain_number : (f : File) (k : ℕ) → IsNumberOf (length f.records) k → IsNumberOf (length (plain_records f)) k
-plain_number f k n = subst (λ m. IsNumberOf m k) (sym (length-map f.records (λ r. map plain_use r.uses))) n
+plain_number f k n = subst (λ m. IsNumberOf m k) (sym (length-map f.records (λ r. map (plain_use f.locations) r.uses))) n
 
 pub same_tree : (f : File) → NumbersTell f → (k : ℕ) → tree_eq (tree_of_record f k) (tree_of_record f k) ≡ true
 same_tree f tell k = (tell.test (tree_of_record f k) (tree_of_record f k)).1 refl
@@ -38,12 +38,12 @@ other_tree f tell j k nj nk differ = by_test (tree_eq (tree_of_record f j) (tree
 pub uses_of_tree : (f : File) → NumbersTell f → (k : ℕ) (r : Record) → IsNumberOf (length f.records) k → record_of f k ≡ Some r →
     uses (tree_of_record f k) ≡ map (use_of_tree f) r.uses
 uses_of_tree f tell k r n is =
-    let plain = λ (s : Record). map plain_use s.uses in
+    let plain = λ (s : Record). map (plain_use f.locations) s.uses in
     let long : length (plain_records f) - k ≡ length f.records - k = ap (λ m. m - k) (length-map f.records plain) in
-    let at : slice_get (plain_records f) (length (plain_records f) - k) ≡ Some (map plain_use r.uses) =
+    let at : slice_get (plain_records f) (length (plain_records f) - k) ≡ Some (map (plain_use f.locations) r.uses) =
     ap (slice_get (plain_records f)) long ∙ slice_get-map plain f.records (length f.records - k) ∙ ap (option_map plain) is in
-    tell.trees.same_uses k (map plain_use r.uses) (plain_number f k n) at
-    ∙ map-map (expanded 1 (trees_of_file (plain_records f))) plain_use r.uses
+    tell.trees.same_uses k (map (plain_use f.locations) r.uses) (plain_number f k n) at
+    ∙ map-map (expanded 1 (trees_of_file (plain_records f))) (plain_use f.locations) r.uses
 
 -- ---- placed numbers
 module _ (f : File) (tell : NumbersTell f) (numbers places : List ℕ) (placed : ArePlaced (length f.records) numbers places) where

@@ -1,5 +1,5 @@
 -- What was read first is still held, and nothing was written since.
-use Rattle.std.proofs.Common.{◌≡◌, ℕ, inl, inr, List, Some, true, IsTrue, sym, ap, subst, ◌∙◌}
+use Rattle.std.proofs.Common.{◌≡◌, ℕ, inl, inr, List, Some, take, true, false, IsTrue, sym, ap, subst, ◌∙◌}
 use Rattle.brep_desk.specs.Shown.{Shown, Tells, ChangesOnly}
 use Rattle.brep_desk.specs.Whole.{NothingWritten, NoMoreOpen}
 use Rattle.brep_run.specs.declared.outcome.Outcome.{Outcome}

@@ -1,40 +1,42 @@
 -- What is written after a removal is what is due.
-use Rattle.std.proofs.Common.{◌≡◌, ◌-◌, refl, sym, ◌∙◌, ap, subst, arith}
-use Rattle.std.specs.Prelude.{ℕ, Bool, true, false, not, ◌&&◌, List, [], ◌∷◌, map, reverse, length, slice_get, slice_index, unwrap_or, Contains}
+use Rattle.std.proofs.Common.{◌≡◌, ◌≢◌, ◌<◌, ◌≤◌, ◌+◌, ◌-◌, refl, sym, ◌∙◌, ap, subst, arith, inl, inr}
+use Rattle.std.specs.Prelude.{ℕ, zero, suc, Bool, true, false, not, ◌==◌, ◌&&◌, Some, List, [], ◌∷◌, map, reverse, length, slice_get, slice_index, unwrap_or, Contains}
 use Rattle.std.proofs.lemmas.List.Elements.{All-contains}
 use Rattle.std.proofs.lemmas.Option.{slice_get_within, unwrap_or-slice_get}
-use Rattle.expansion_laws.specs.Trees.{Tree, Use, origin}
+use Rattle.expansion_laws.specs.Trees.{Tree, Use, a_single, origin, tree_of}
 use Rattle.expansion_laws.specs.Contexts.{at_root}
-use Rattle.expansion_laws.specs.Expansion.{IsNumberOf, expansion, tree_of_number}
+use Rattle.expansion_laws.specs.Expansion.{NumberedUse, IsNumberOf, expansion, tree_of_number}
 use Rattle.expansion_laws.specs.Rewriting.{StepsTo}
 use Rattle.expansion_laws.specs.RewritingLaws.{IsDetermined}
-use Rattle.expansion_laws.specs.Steps.{root_of}
+use Rattle.expansion_laws.specs.Steps.{root_of, kind}
 use Rattle.expansion_laws.specs.Visits.{IsImage}
 use Rattle.expansion_laws.specs.Walk.{RecordsAreTrees}
 use Rattle.expansion_laws.specs.Written.{flat, IsWritten}
-use Rattle.expansion_laws.proofs.Members.{Contains-here, Contains-there, Contains-none, place_of}
+use Rattle.expansion_laws.proofs.Members.{by_test, Contains-here, Contains-there, Contains-none, place_of}
 use Rattle.step_history.specs.History.{IsTold, OccursIn, modified, step_history}
-use Rattle.brep_file.specs.declared.file.Record.{Record}
+use Rattle.brep_file.specs.declared.uses.FileUse.{FileUse}
+use Rattle.brep_file.specs.declared.records.Record.{Record}
 use Rattle.brep_file.specs.declared.file.File.{File}
-use Rattle.brep_file.specs.PlainRecords.{plain_use, plain_records, tree_of_record, expansion_of}
+use Rattle.brep_file.specs.PlainRecords.{record_of, plain_use, plain_records, tree_of_record, expansion_of, plain_root}
 use Rattle.brep_file.specs.Sound.{IsUse, IsSound}
 use Rattle.brep_run.specs.Dress.{head_of}
 use Rattle.brep_run.specs.Completion.{NumbersTell, ArePlaced, Completes}
 use Rattle.brep_run.specs.Copies.{CanBeWritten}
 use Rattle.brep_run.specs.WrittenFile.{text_of}
-use Rattle.brep_run.specs.Removal.{removal_step, tree_written, IsRootAfter, history_after, ArePairsOf, AreNumbersOf, RemovalDone, Ascends, origins_written}
-use Rattle.brep_run.specs.Remaining.{is_among, is_told, has_place, is_gone, is_modified, passing, kept_records, tree_after, made_root, RootStays, RootGoes}
+use Rattle.brep_run.specs.Removal.{removal_step, tree_written, IsRootAfter, history_after, no_history, ArePairsOf, AreNumbersOf, RemovalDone, Ascends, origins_written}
+use Rattle.brep_run.specs.Remaining.{is_among, is_told, has_place, is_gone, is_modified, passing, pair_of, kept_records, tree_after, made_root, RootStays, RootGoes}
 use Rattle.brep_file.specs.Marks.{kept_uses}
 use Rattle.brep_run.proofs.CopyLemmas.{stands-below}
 use Rattle.brep_run.proofs.KeptLists.{filter-all, map-same}
 use Rattle.brep_run.proofs.MadeRoot.{made-only, made-writable}
 use Rattle.brep_run.proofs.Numbering.{plain_number}
 use Rattle.brep_run.proofs.Passing.{Passes, passing-member, passing-has, passing-ascends, first-of_pairs}
-use Rattle.brep_run.proofs.RemovalFile.{root-after, text-same, writable-over, after-tells}
-use Rattle.brep_run.proofs.RemovalHistory.{Orders, true-false, told-is, is-told, and-parts, and-both, kind-is, none-replaced, step-removes, step-modifies}
+use Rattle.brep_run.proofs.RemovalTrees.{use_after}
+use Rattle.brep_run.proofs.RemovalFile.{root-after, tree-after, text-same, writable-over, after-tells}
+use Rattle.brep_run.proofs.RemovalHistory.{Orders, true-false, told-is, is-told, and-parts, and-both, kind-is, none-replaced, step-generates_none, step-removes, step-modifies}
 use Rattle.brep_run.proofs.RemovalRewriting.{AreRemoved, result_of, result-gone, result-stays, rewrites-are}
 use Rattle.brep_run.proofs.RemovalStanding.{stands-placed, placed-stands}
-use Rattle.brep_run.proofs.RemovalVisits.{image-is, no-image}
+use Rattle.brep_run.proofs.RemovalVisits.{Imaged, image-is, no-image}
 
 -- the laws that are taken from below
 pub record Laws : Type 1 where
@@ -103,7 +105,7 @@ module _ (f : File) (numbers : List ℕ) (removed : ℕ → Bool) (tell : Number
     gone-up = subst Ascends (sym given.gone_are) (passing-ascends (is_gone f before given.places) (length f.records))
 
     writable : CanBeWritten f (expansion_of g)
-    writable = writable-over f removed tell walk g given.is_after tell_g (laws.copies g tell_g.sound)
+    writable = writable-over f removed tell walk g given.is_after tell_g (laws.written (expansion_of g)) (laws.copies g tell_g.sound)
 
     text-due : text ≡ text_of f (expansion_of g)
     text-due = given.text_is ∙ text-same f removed tell walk g given.is_after tell_g (laws.written (expansion_of g))
@@ -118,14 +120,14 @@ module _ (f : File) (numbers : List ℕ) (removed : ℕ → Bool) (tell : Number
     -- where nothing is removed
     module _ (nothing : (k : ℕ) → IsNumberOf (length f.records) k → removed k ≡ false) where
       all-kept : kept_records f removed ≡ plain_records f
-      all-kept = map-same (λ (r : Record). map plain_use (kept_uses removed r.uses)) (λ (r : Record). map plain_use r.uses) f.records (λ r m.
+      all-kept = map-same (λ (r : Record). map (plain_use f.locations) (kept_uses removed r.uses)) (λ (r : Record). map (plain_use f.locations) r.uses) f.records (λ r m.
           let at = place_of f.records r m in
           let within = slice_get_within f.records at.0 r at.1 in
           let k : ℕ = length f.records - at.0 in
           let back : length f.records - k ≡ at.0 = omega (arith, within) in
           let number : IsNumberOf (length f.records) k = (omega (arith, within), omega arith) in
           let uses = (tell.sound.records k r number (ap (slice_get f.records) back ∙ at.1)).uses in
-          ap (map plain_use) (filter-all (λ u. not (removed u.number)) r.uses (λ u o.
+          ap (map (plain_use f.locations)) (filter-all (λ u. not (removed u.number)) r.uses (λ u o.
           let is = All-contains (IsUse f k r.head.kind) r.uses u uses o in let above = is.above in
           ap not (nothing u.number (omega (arith, above), is.named)))))
 
@@ -133,7 +135,7 @@ module _ (f : File) (numbers : List ℕ) (removed : ℕ → Bool) (tell : Number
       same-tree k = ap (λ records. tree_of_number records k) all-kept
 
       pub same-root : expansion_of g ≡ expansion_of f
-      same-root = root-after f removed tell walk g given.is_after ∙ ap (λ records. expansion records (plain_use f.root)) all-kept
+      same-root = root-after f removed tell walk g given.is_after ∙ ap (λ records. expansion records (plain_root f)) all-kept
 
       -- no pair and no number is told
       pub no-pair : (p : ℕ × ℕ) → Contains pairs p → ⊥
@@ -250,7 +252,7 @@ module _ (f : File) (numbers : List ℕ) (removed : ℕ → Bool) (tell : Number
     made_root,
     record {
       root_after = root-due numbers refl;
-      writable = made-writable f;
+      writable = made-writable f tell.sound;
       written = given.text_is;
       origins_are = given.origins_are;
       pairs_are = pairs-due numbers refl;

@@ -1,21 +1,25 @@
 -- Going through the records in file order.
-use Rattle.std.proofs.Common.{◌≡◌, ◌≢◌, ◌<◌, ◌≤◌, ◌+◌, ◌-◌, refl, sym, ◌∙◌, ap, arith, get_or, get_or-set_same, get_or-set_other, set}
-use Rattle.std.specs.Prelude.{ℕ, Bool, true, not, false, ◌||◌, if◌then◌else◌, nat_eq, Option, Some, List, length, slice_get}
+use Rattle.std.proofs.Common.{◌≡◌, ◌≢◌, ◌<◌, ◌≤◌, ◌+◌, ◌-◌, refl, sym, ◌∙◌, ap, subst, arith, get_or, get_or-set_same, get_or-set_other, set}
+use Rattle.std.specs.Prelude.{ℕ, Bool, true, not, false, ◌||◌, if◌then◌else◌, nat_eq, Option, Some, List, length, slice_get, Contains}
 use Rattle.std.specs.Option.{option_map_or}
 use Rattle.std.proofs.lemmas.List.{length-set}
 use Rattle.std.proofs.lemmas.Bool.{eqb-true, eqb-false}
 use Rattle.std.proofs.lemmas.Option.{same_Some, slice_get-get_or}
 use Rattle.expansion_laws.specs.Equality.{tree_eq}
 use Rattle.expansion_laws.specs.Expansion.{IsNumberOf}
+use Rattle.expansion_laws.specs.Trees.{origin}
 use Rattle.expansion_laws.specs.Walk.{RecordsAreTrees}
 use Rattle.expansion_laws.proofs.Members.{by_test}
-use Rattle.brep_file.specs.declared.file.Record.{Record}
+use Rattle.brep_file.specs.declared.uses.FileUse.{FileUse}
+use Rattle.brep_file.specs.declared.head.Head.{Head}
+use Rattle.brep_file.specs.declared.records.Record.{Record}
 use Rattle.brep_file.specs.declared.file.File.{File}
 use Rattle.brep_file.specs.PlainRecords.{record_of, tree_of_record}
 use Rattle.brep_run.specs.Dress.{head_for, made_head, rebuilt}
 use Rattle.brep_run.specs.Completion.{NumbersTell}
 use Rattle.brep_run.specs.Remaining.{kept_records, tree_after, record_after, is_touched, touched, IsFileAfter, AreChanges}
 use Rattle.brep_file.specs.Marks.{kept_uses, mark_of}
+use Rattle.brep_run.proofs.CopyLemmas.{record-at}
 use Rattle.brep_run.proofs.KeptLists.{filter-all, any-none}
 use Rattle.brep_run.proofs.WrittenSound.{perhaps}
 use Rattle.brep_run.proofs.RemovalTrees.{origin-after, touched-is}
@@ -136,11 +140,10 @@ module _ (f : File) (removed : ℕ → Bool) (tell : NumbersTell f) (walk : Reco
     }
 
   -- when all are done
-  pub all-done : (g : File) (changed : List Bool) (place : ℕ) → g.version ≡ f.version → g.root ≡ f.root → length f.records ≤ place → AreDone f removed place g.records changed →
+  pub all-done : (g : File) (changed : List Bool) (place : ℕ) → g ≡ record f { records = g.records } → length f.records ≤ place → AreDone f removed place g.records changed →
       IsFileAfter f removed g
-  all-done g changed place version root past all = record {
-    version = version;
-    root = root;
+  all-done g changed place others past all = record {
+    others = others;
     size = all.size;
     records = λ k r n e.
         (let low = n.0 in let high = n.1 in let size = all.size in

@@ -1,20 +1,22 @@
 -- What remains of a file's records when some are removed: records of a file again, and their trees.
 use Rattle.std.proofs.Common.{◌≡◌, ◌<◌, ◌≤◌, ◌-◌, refl, sym, ◌∙◌, ap, subst, arith}
-use Rattle.std.specs.Prelude.{ℕ, Bool, true, false, not, ◌||◌, Some, List, [], All, map, length, Contains, slice_get}
+use Rattle.std.specs.Prelude.{ℕ, max, Bool, true, false, not, ◌||◌, Some, List, [], ◌∷◌, All, map, filter, length, Contains, slice_get}
+use Rattle.std.specs.List.{list_any}
 use Rattle.std.proofs.lemmas.List.{length-map}
 use Rattle.std.proofs.lemmas.List.Elements.{All-map, All-filter, All-contains, All-weaker}
 use Rattle.std.proofs.lemmas.Option.{same_Some}
 use Rattle.std.proofs.lemmas.Simd.{map-map}
-use Rattle.expansion_laws.specs.Trees.{Tree, Use, node, uses, origin, tree_of}
+use Rattle.location_table.specs.Words.{word_of_place}
+use Rattle.expansion_laws.specs.Trees.{Tree, Use, node, uses, uses_of, origin, tree_of}
 use Rattle.expansion_laws.specs.Equality.{tree_eq}
 use Rattle.expansion_laws.specs.Expansion.{NumberedUse, IsNumberOf, IsFile, expanded, trees_of_file}
 use Rattle.expansion_laws.specs.Walk.{RecordsAreTrees}
 use Rattle.expansion_laws.proofs.Members.{by_test, list_any-found}
 use Rattle.expansion_laws.proofs.Subtrees.{uses_of-list_of}
-use Rattle.brep_file.specs.declared.file.FileUse.{FileUse}
-use Rattle.brep_file.specs.declared.file.Record.{Record}
+use Rattle.brep_file.specs.declared.uses.FileUse.{FileUse}
+use Rattle.brep_file.specs.declared.records.Record.{Record}
 use Rattle.brep_file.specs.declared.file.File.{File}
-use Rattle.brep_file.specs.PlainRecords.{record_of, plain_use, tree_of_record}
+use Rattle.brep_file.specs.PlainRecords.{record_of, plain_use, plain_records, tree_of_record, plain_root}
 use Rattle.brep_file.specs.Sound.{IsUse, IsSound}
 use Rattle.brep_run.specs.Completion.{NumbersTell, use_of_tree}
 use Rattle.brep_run.specs.Remaining.{kept_records, tree_after, is_touched}
@@ -22,7 +24,7 @@ use Rattle.brep_file.specs.Marks.{kept_uses}
 use Rattle.brep_run.proofs.CopyLemmas.{record-at}
 use Rattle.brep_run.proofs.KeptLists.{filter-all, any-none, map-same, map-kept}
 use Rattle.brep_run.proofs.NumberedRecords.{NamesAboveIts, map-from_end, names_from-numbers}
-use Rattle.brep_run.proofs.Numbering.{uses_of_tree}
+use Rattle.brep_run.proofs.Numbering.{uses_of_tree, same_tree}
 
 -- a tree is that of its origin and its uses
 pub tree-parts : (x : Tree) → x ≡ tree_of (origin x) (uses x)
@@ -38,7 +40,7 @@ not-true false e = refl
 
 module _ (f : File) (removed : ℕ → Bool) where
   abbrev plain_kept : Record → List NumberedUse
-  plain_kept r = map plain_use (kept_uses removed r.uses)
+  plain_kept r = map (plain_use f.locations) (kept_uses removed r.uses)
 
   pub count-kept : length (kept_records f removed) ≡ length f.records
   count-kept = length-map f.records plain_kept
@@ -51,7 +53,7 @@ module _ (f : File) (removed : ℕ → Bool) where
 
   -- a use with the tree after the removal
   abbrev pub use_after : FileUse → Use
-  use_after u = expanded 1 (trees_of_file (kept_records f removed)) (plain_use u)
+  use_after u = expanded 1 (trees_of_file (kept_records f removed)) (plain_use f.locations u)
 
   module _ (sound : IsSound f) where
     names-kept : (k : ℕ) (us : List NumberedUse) → IsNumberOf (length (kept_records f removed)) k →
@@ -63,11 +65,11 @@ module _ (f : File) (removed : ℕ → Bool) where
         All-filter (λ u. not (removed u.number)) (λ u. (k < u.number) × (u.number ≤ length f.records)) at.0.uses
         (All-weaker (IsUse f k at.0.head.kind) (λ u. (k < u.number) × (u.number ≤ length f.records)) (λ u is. (is.above, is.named)) at.0.uses (sound.records k at.0 number at.1).uses) in
         let here : NamesAboveIts (length f.records) k (plain_kept at.0) =
-        All-map (λ (v : NumberedUse). (k < v.number) × (v.number ≤ length f.records)) plain_use (kept_uses removed at.0.uses) named in
+        All-map (λ (v : NumberedUse). (k < v.number) × (v.number ≤ length f.records)) (plain_use f.locations) (kept_uses removed at.0.uses) named in
         subst (λ j. NamesAboveIts j k us) (sym count-kept)
         (subst (NamesAboveIts (length f.records) k) (same_Some (plain_kept at.0) us (sym (kept-at k at.0 at.1) ∙ e)) here)
 
-    pub kept-file : IsFile (kept_records f removed) (plain_use f.root)
+    pub kept-file : IsFile (kept_records f removed) (plain_root f)
     kept-file = record {
       names_above = names_from-numbers (kept_records f removed) names-kept;
       names_root = kept-number f.root.number sound.root;
@@ -81,7 +83,7 @@ module _ (f : File) (removed : ℕ → Bool) where
         uses (tree_after f removed k) ≡ map use_after (kept_uses removed r.uses)
     uses-after k r n e =
         walk.same_uses k (plain_kept r) (kept-number k n) (kept-at k r e)
-        ∙ map-map (expanded 1 (trees_of_file (kept_records f removed))) plain_use (kept_uses removed r.uses)
+        ∙ map-map (expanded 1 (trees_of_file (kept_records f removed))) (plain_use f.locations) (kept_uses removed r.uses)
 
     pub after-is : (k : ℕ) (r : Record) → IsNumberOf (length f.records) k → record_of f k ≡ Some r →
         tree_after f removed k ≡ tree_of k (map use_after (kept_uses removed r.uses))
@@ -92,7 +94,7 @@ module _ (f : File) (removed : ℕ → Bool) where
     pub before-is : (k : ℕ) (r : Record) → IsNumberOf (length f.records) k → record_of f k ≡ Some r →
         tree_of_record f k ≡ tree_of k (map (use_of_tree f) r.uses)
     before-is k r n e =
-        let o : origin (tree_of_record f k) ≡ k = tell.trees.origins k (subst (λ m. IsNumberOf m k) (sym (length-map f.records (λ (s : Record). map plain_use s.uses))) n) in
+        let o : origin (tree_of_record f k) ≡ k = tell.trees.origins k (subst (λ m. IsNumberOf m k) (sym (length-map f.records (λ (s : Record). map (plain_use f.locations) s.uses))) n) in
         let us = uses_of_tree f tell k r n e in
         tree-parts (tree_of_record f k) ∙ (λ i. tree_of (o i) (us i))
 
@@ -113,7 +115,7 @@ module _ (f : File) (removed : ℕ → Bool) where
           let test : not (tree_eq (tree_after f removed u.number) (tree_of_record f u.number)) ≡ false = sym (above u.number names.0 names.1) ∙ e in
           let same : tree_after f removed u.number ≡ tree_of_record f u.number =
           (tell.test (tree_after f removed u.number) (tree_of_record f u.number)).0 (not-false (tree_eq (tree_after f removed u.number) (tree_of_record f u.number)) test) in
-          λ i. record { turn = u.turn; word = []; tree = same i }
+          λ i. record { turn = u.turn; word = word_of_place f.locations u.location; tree = same i }
         where
           not-false : (a : Bool) → not a ≡ false → a ≡ true
           not-false true e = refl

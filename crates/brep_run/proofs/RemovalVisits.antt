@@ -1,8 +1,8 @@
 -- What is visited, and what its images are, where records are removed by their numbers.
-use Rattle.std.proofs.Common.{◌≡◌, ◌<◌, ◌+◌, refl, sym, ◌∙◌, ap, subst, arith, inl, inr}
-use Rattle.std.specs.Prelude.{ℕ, zero, suc, Bool, true, false, not, ◌⊎◌, List, [], ◌∷◌, map, length, Contains}
+use Rattle.std.proofs.Common.{◌≡◌, ◌<◌, ◌≤◌, ◌+◌, refl, sym, ◌∙◌, ap, subst, arith, inl, inr}
+use Rattle.std.specs.Prelude.{ℕ, zero, suc, Bool, true, false, not, ◌⊎◌, Option, None, Some, List, [], ◌∷◌, map, filter, length, Contains}
 use Rattle.orientation.specs.declared.turn.Turn.TheVariants.{Forward}
-use Rattle.expansion_laws.specs.Trees.{Tree, Use, a_single, uses}
+use Rattle.expansion_laws.specs.Trees.{Tree, Use, a_single, uses, origin}
 use Rattle.expansion_laws.specs.Contexts.{Context, at_root, inside, bare}
 use Rattle.expansion_laws.specs.Demands.{demands, demands_by, demands_of_act}
 use Rattle.expansion_laws.specs.Expansion.{IsNumberOf}
@@ -14,7 +14,7 @@ use Rattle.expansion_laws.specs.Visits.{LeadsTo, itself, onto, IsImage}
 use Rattle.expansion_laws.specs.Walk.{RecordsAreTrees}
 use Rattle.expansion_laws.proofs.Members.{by_test, Contains-cases, Contains-none, Contains-here, Contains-map, Contains-map_cases}
 use Rattle.expansion_laws.proofs.Subtrees.{subtrees-itself, subtrees-cases, subtrees-use}
-use Rattle.brep_file.specs.declared.file.FileUse.{FileUse}
+use Rattle.brep_file.specs.declared.uses.FileUse.{FileUse}
 use Rattle.brep_file.specs.declared.file.File.{File}
 use Rattle.brep_file.specs.PlainRecords.{tree_of_record, expansion_of}
 use Rattle.brep_run.specs.Completion.{NumbersTell, use_of_tree}

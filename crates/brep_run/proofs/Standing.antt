@@ -11,15 +11,18 @@ use Rattle.expansion_laws.specs.Written.{flat, number_in, numbered, records_of, 
 use Rattle.expansion_laws.specs.Walk.{RecordsAreTrees}
 use Rattle.expansion_laws.proofs.Members.{Contains-at}
 use Rattle.expansion_laws.proofs.Relabelling.{relabelled-twice, relabelled-same}
-use Rattle.brep_file.specs.declared.file.Record.{Record}
+use Rattle.brep_file.specs.declared.records.Record.{Record}
 use Rattle.brep_file.specs.declared.file.File.{File}
-use Rattle.brep_file.specs.PlainRecords.{plain_use, expansion_of}
+use Rattle.brep_file.specs.PlainRecords.{expansion_of, plain_root}
 use Rattle.brep_run.specs.Dress.{Dressed, dressed, head_for, head_of, made_head, dress, full}
-use Rattle.brep_run.specs.WrittenFile.{written_file}
+use Rattle.location_table.specs.Laws.{WrittenIsHeld}
+use Rattle.location_table.specs.Words.{datums_of}
+use Rattle.written_locations.specs.Further.{further_words}
+use Rattle.brep_run.specs.WrittenFile.{words_under, written_file}
 use Rattle.brep_run.specs.Copies.{CanBeWritten, StandsFor}
 use Rattle.brep_run.proofs.WrittenSound.{record-made, tree-made, plain-made, root-made}
 
-module _ (f : File) (root : Use) (can : CanBeWritten f root) (written : IsWritten root (flat root.tree)) (walk : RecordsAreTrees (records_of (flat root.tree))) where
+module _ (f : File) (root : Use) (can : CanBeWritten f root) (written : IsWritten root (flat root.tree)) (walk : RecordsAreTrees (records_of (flat root.tree))) (law : WrittenIsHeld) where
   abbrev trees : List Tree
   trees = flat root.tree
 
@@ -40,7 +43,7 @@ module _ (f : File) (root : Use) (can : CanBeWritten f root) (written : IsWritte
   dressed_of x = dressed (head_of made (origin x))
 
   expansion-made : expansion_of made ≡ again
-  expansion-made = λ i. expansion (plain-made f root can written i) (root-made f root can written i)
+  expansion-made = λ i. expansion (plain-made f root can written law i) (root-made f root can written law i)
 
   -- the number of a tree has the head under which the tree is written
   head-made : (k : ℕ) (x : Tree) → slice_get trees (length trees - k) ≡ Some x → head_of made k ≡ head_for f x
@@ -75,6 +78,7 @@ module _ (f : File) (root : Use) (can : CanBeWritten f root) (written : IsWritte
     dressed = full-made;
     relabelled = ap (use_with_origins (origins_of trees)) expansion-made ∙ written.expands;
     version = refl;
-    shared = subst (λ records. IsShared records (plain_use made.root) (origins_of trees)) (sym (plain-made f root can written))
-        (subst (λ use_of. IsShared (records_of trees) use_of (origins_of trees)) (sym (root-made f root can written)) written.shared);
+    datums = law.datums_are (datums_of f.locations) (further_words (words_under f root));
+    shared = subst (λ records. IsShared records (plain_root made) (origins_of trees)) (sym (plain-made f root can written law))
+        (subst (λ use_of. IsShared (records_of trees) use_of (origins_of trees)) (sym (root-made f root can written law)) written.shared);
   }

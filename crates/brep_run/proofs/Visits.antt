@@ -5,8 +5,8 @@ use Rattle.std.proofs.lemmas.Bool.{eqb-true, eqb-false}
 use Rattle.std.proofs.Math.Seq.{take-suc}
 use Rattle.expansion_laws.specs.Expansion.{IsNumberOf}
 use Rattle.orientation.specs.declared.turn.Turn.TheVariants.{Forward}
-use Rattle.brep_file.specs.declared.file.FileUse.{FileUse}
-use Rattle.brep_file.specs.declared.file.Record.{Record}
+use Rattle.brep_file.specs.declared.uses.FileUse.{FileUse}
+use Rattle.brep_file.specs.declared.records.Record.{Record}
 use Rattle.brep_file.specs.declared.file.File.{File}
 use Rattle.brep_file.specs.PlainRecords.{record_of}
 use Rattle.brep_run.specs.Completion.{NumbersTell, ArePlaced, FirstStay, Completes, CompletesUses}

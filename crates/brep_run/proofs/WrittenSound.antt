@@ -1,27 +1,43 @@
 -- The file that is written for a root over a sound file's records is sound, and its records are those of the root's trees.
 use Rattle.std.proofs.Common.{◌≡◌, ◌<◌, ◌≤◌, ◌-◌, refl, sym, ◌∙◌, ap, subst, arith, inl, inr}
-use Rattle.std.specs.Prelude.{ℕ, ◌^◌, Bool, true, false, if◌then◌else◌, Option, Some, None, List, map, length, Contains, slice_get}
+use Rattle.std.specs.Prelude.{ℕ, ◌^◌, Bool, true, false, if◌then◌else◌, Option, Some, None, List, [], ◌∷◌, ◌++◌, map, length, codes, Contains, slice_get}
+use Rattle.std.specs.List.{AllByRecursion, flat_map}
 use Rattle.std.specs.Option.{option_map_or}
 use Rattle.std.proofs.lemmas.List.{length-map}
-use Rattle.std.proofs.lemmas.List.Elements.{All-map, All-weaker, All-contains, All-contains_itself}
+use Rattle.std.proofs.lemmas.List.Elements.{All-map, All-weaker, All-contains, All-contains_itself, Contains-append_left, Contains-append_right, Contains-append_cases}
 use Rattle.std.proofs.lemmas.Option.{none-some, same_Some, slice_get_past}
 use Rattle.orientation.specs.Kinds.{IsBelow}
+use Rattle.location_words.specs.declared.pair.Pair.{Pair}
+use Rattle.location_table.specs.Laws.{WrittenIsHeld}
+use Rattle.location_table.specs.Locations.{spell_location}
+use Rattle.location_table.specs.Words.{datums_of, word_of_place}
+use Rattle.location_table.specs.Written.{IsWordOver}
+use Rattle.written_locations.specs.Further.{further_words}
+use Rattle.written_locations.proofs.Words.{further-found, further-from}
+use Rattle.written_locations.proofs.Meeting.{datums-few}
+use Rattle.written_locations.proofs.Sections.{each-member, place-of_word, place-within_section, datums-sound}
 use Rattle.expansion_laws.specs.Trees.{Tree, Use, uses, origin}
 use Rattle.expansion_laws.specs.Equality.{tree_eq}
 use Rattle.expansion_laws.specs.Measures.{depth, subtrees}
 use Rattle.expansion_laws.specs.Expansion.{NumberedUse, IsNumberOf, tree_of_number}
 use Rattle.expansion_laws.specs.Written.{flat, number_in, numbered, records_of, IsWritten}
-use Rattle.expansion_laws.proofs.Members.{Contains-at, Contains-map, at_place}
+use Rattle.expansion_laws.proofs.Members.{Contains-at, Contains-map, Contains-map_cases, Contains-flat_map, Contains-flat_map_cases, Contains-cases, Contains-here, Contains-none, at_place}
 use Rattle.expansion_laws.proofs.Subtrees.{subtrees-itself, subtrees-use, subtrees-onward}
-use Rattle.brep_file.specs.declared.file.Head.{Head}
-use Rattle.brep_file.specs.declared.file.Record.{Record}
+use Rattle.brep_file.specs.declared.head.Head.{Head}
+use Rattle.brep_file.specs.declared.head.Payload.{Payload}
+use Rattle.brep_file.specs.declared.head.Payload.TheVariants.{Vertex, Nothing}
+use Rattle.brep_file.specs.declared.uses.FileUse.{FileUse}
+use Rattle.brep_file.specs.declared.records.Record.{Record}
 use Rattle.brep_file.specs.declared.file.File.{File}
-use Rattle.brep_file.specs.PlainRecords.{record_of, plain_use, plain_records, tree_of_record}
-use Rattle.brep_file.specs.Sound.{IsShaped, IsUse, IsRecord, IsSound}
+use Rattle.brep_file.specs.Spelling.{section, spell_file, spell_payload, spell_record, spell_tables, spell_use}
+use Rattle.brep_file.specs.PlainRecords.{record_of, plain_use, plain_root, plain_records, tree_of_record}
+use Rattle.brep_file.specs.Sound.{AreSoundTables, IsShaped, IsUse, IsRecord, IsSound}
 use Rattle.brep_run.specs.Dress.{head_for, made_head, rebuilt}
-use Rattle.brep_run.specs.WrittenFile.{written_use, written_record, written_file}
+use Rattle.brep_run.specs.WrittenFile.{words_of_data, words_of_tree, words_under, location_under, written_use, written_record, written_file}
 use Rattle.brep_run.specs.Copies.{CanBeWritten}
+use Rattle.brep_run.proofs.LayoutLemmas.{each-append, each-flat_map, spell_others}
 use Rattle.brep_run.proofs.NumberedRecords.{map-map, map-from_end, names_of-number}
+use Rattle.brep_run.proofs.ShortTokens.{Short, AreShort, each-left, each-right, each-map, datums-short, written-entries, section-short, use-short, record-short, shape_tokens, payload-for}
 
 -- ---- heads
 -- a head, perhaps rebuilt
@@ -37,6 +53,11 @@ shaped-chosen : (o : Option Record) (same : Bool) → ((r : Record) → o ≡ So
 shaped-chosen None same h = tt
 shaped-chosen (Some r) same h = shaped-perhaps same r.head (h r refl)
 
+-- the data have no words
+pub no-data_words : (p : Payload) (w : List Pair) → Contains (words_of_data p) w → ⊥
+no-data_words (Vertex d) w m = Contains-none w m
+no-data_words Nothing w m = Contains-none w m
+
 module _ (f : File) (root : Use) (can : CanBeWritten f root) (written : IsWritten root (flat root.tree)) where
   abbrev trees : List Tree
   trees = flat root.tree
@@ -44,25 +65,66 @@ module _ (f : File) (root : Use) (can : CanBeWritten f root) (written : IsWritte
   abbrev made : File
   made = written_file f root
 
+  abbrev location : List Pair → ℕ
+  location = location_under f root
+
+  abbrev datums : List (List (List ℕ))
+  datums = datums_of f.locations
+
+  abbrev further : List (List Pair)
+  further = further_words (words_under f root)
+
   pub count-made : length made.records ≡ length trees
-  count-made = length-map trees (written_record f trees)
+  count-made = length-map trees (written_record f location trees)
 
   -- the record of a number is that of the tree with this number
-  pub record-made : (k : ℕ) (x : Tree) → slice_get trees (length trees - k) ≡ Some x → record_of made k ≡ Some (written_record f trees x)
-  record-made k x e = map-from_end (written_record f trees) trees k x e
+  pub record-made : (k : ℕ) (x : Tree) → slice_get trees (length trees - k) ≡ Some x → record_of made k ≡ Some (written_record f location trees x)
+  record-made k x e = map-from_end (written_record f location trees) trees k x e
 
   pub tree-made : (k : ℕ) → IsNumberOf (length trees) k → (x : Tree) × (slice_get trees (length trees - k) ≡ Some x)
   tree-made k n = (let low = n.0 in let high = n.1 in at_place trees (length trees - k) (omega (arith, low, high)))
 
-  -- without their data they are the records of the trees
-  pub plain-made : plain_records made ≡ records_of trees
-  plain-made =
-      map-map (written_record f trees) (λ r. map plain_use r.uses) (λ x. map (numbered trees) (uses x)) trees (λ x m.
-      map-map (written_use trees) plain_use (numbered trees) (uses x) (λ u k.
-      λ i. record { turn = u.turn; word = sym (can.words x u (written.lists.stand x m) k) i; number = number_in trees u.tree }))
+  -- ---- words
+  word-listed : (x : Tree) (u : Use) → Contains trees x → Contains (uses x) u → Contains (words_under f root) u.word
+  word-listed x u m k =
+      Contains-append_left (flat_map (words_of_tree f) trees) (root.word ∷ []) u.word
+      (Contains-flat_map (words_of_tree f) x u.word trees m
+      (Contains-append_right (words_of_data (head_for f x).payload) (map (λ (v : Use). v.word) (uses x)) u.word (Contains-map (λ (v : Use). v.word) u (uses x) k)))
 
-  pub root-made : plain_use made.root ≡ numbered trees root
-  root-made = λ i. record { turn = root.turn; word = sym can.root_word i; number = number_in trees root.tree }
+  root-listed : Contains (words_under f root) root.word
+  root-listed = Contains-append_right (flat_map (words_of_tree f) trees) (root.word ∷ []) root.word (Contains-here root.word [])
+
+  word-over : (w : List Pair) → Contains (words_under f root) w → IsWordOver (length datums) w
+  word-over w m = elim (Contains-append_cases (flat_map (words_of_tree f) trees) (root.word ∷ []) w m) [
+    | inl k ↦ (let from = Contains-flat_map_cases (words_of_tree f) w trees k in
+        elim (Contains-append_cases (words_of_data (head_for f from.0).payload) (map (λ (v : Use). v.word) (uses from.0)) w from.2) [
+          | inl none ↦ absurd (no-data_words (head_for f from.0).payload w none)
+          | inr l ↦ (let used = Contains-map_cases (λ (v : Use). v.word) w (uses from.0) l in
+              subst (IsWordOver (length datums)) used.2 (can.words from.0 used.0 (written.lists.stand from.0 from.1) used.1))
+        ])
+    | inr k ↦ elim (Contains-cases root.word w [] k) [ inl same ↦ subst (IsWordOver (length datums)) same can.root_word | inr none ↦ absurd (Contains-none w none) ]
+  ]
+
+  pub over-further : AllByRecursion (IsWordOver (length datums)) further
+  over-further = each-member (IsWordOver (length datums)) further (λ w m. word-over w (further-from (words_under f root) w m).0)
+
+  module _ (law : WrittenIsHeld) where
+    -- the location of a word has it again
+    word-again : (w : List Pair) → Contains (words_under f root) w → word_of_place made.locations (location w) ≡ w
+    word-again w m = place-of_word law datums further over-further w (word-over w m) (λ e. further-found (words_under f root) w m e)
+
+    word-within : (w : List Pair) → Contains (words_under f root) w → location w ≤ length made.locations
+    word-within w m = place-within_section law datums further over-further w (word-over w m) (λ e. further-found (words_under f root) w m e)
+
+    -- without their data they are the records of the trees
+    pub plain-made : plain_records made ≡ records_of trees
+    plain-made =
+        map-map (written_record f location trees) (λ r. map (plain_use made.locations) r.uses) (λ x. map (numbered trees) (uses x)) trees (λ x m.
+        map-map (written_use location trees) (plain_use made.locations) (numbered trees) (uses x) (λ u k.
+        λ i. record { turn = u.turn; word = word-again u.word (word-listed x u m k) i; number = number_in trees u.tree }))
+
+    pub root-made : plain_root made ≡ numbered trees root
+    root-made = λ i. record { turn = root.turn; word = word-again root.word root-listed i; number = number_in trees root.tree }
 
   stands-root : Contains trees root.tree
   stands-root = written.lists.all root.tree (subtrees-itself root.tree)
@@ -79,47 +141,100 @@ module _ (f : File) (root : Use) (can : CanBeWritten f root) (written : IsWritte
       (subst (λ j. IsNumberOf j k) (sym (length-map trees record_at)) n) (map-from_end record_at trees k x e) in
       (All-contains (λ (v : NumberedUse). (k < v.number) × (v.number ≤ length (records_of trees))) (record_at x) (numbered trees u) all (Contains-map (numbered trees) u (uses x) m)).0
 
-  use-made : (k : ℕ) (x : Tree) → IsNumberOf (length trees) k → slice_get trees (length trees - k) ≡ Some x → (u : Use) → Contains (uses x) u →
-      IsUse made k (head_for f x).kind (written_use trees u)
-  use-made k x n e u m =
-      let stands = written.lists.stand x (Contains-at trees (length trees - k) x e) in
-      let listed : Contains trees u.tree = written.lists.all u.tree (subtrees-onward root.tree x u.tree stands (subtrees-use x u u.tree m (subtrees-itself u.tree))) in
-      record {
-        above = names-made k x n e u m;
-        named = (number-made u.tree listed).1;
-        in_order = λ r is. subst (λ (s : Record). IsBelow s.head.kind (head_for f x).kind)
-            (same_Some (written_record f trees u.tree) r (sym (record-made (number_in trees u.tree) u.tree (written.lists.places u.tree listed)) ∙ is))
-            (can.in_order x u stands m);
-        location = refl;
+  module _ (law : WrittenIsHeld) where
+    use-made : (k : ℕ) (x : Tree) → IsNumberOf (length trees) k → slice_get trees (length trees - k) ≡ Some x → (u : Use) → Contains (uses x) u →
+        IsUse made k (head_for f x).kind (written_use location trees u)
+    use-made k x n e u m =
+        let stands = written.lists.stand x (Contains-at trees (length trees - k) x e) in
+        let listed : Contains trees u.tree = written.lists.all u.tree (subtrees-onward root.tree x u.tree stands (subtrees-use x u u.tree m (subtrees-itself u.tree))) in
+        record {
+          above = names-made k x n e u m;
+          named = (number-made u.tree listed).1;
+          in_order = λ r is. subst (λ (s : Record). IsBelow s.head.kind (head_for f x).kind)
+              (same_Some (written_record f location trees u.tree) r (sym (record-made (number_in trees u.tree) u.tree (written.lists.places u.tree listed)) ∙ is))
+              (can.in_order x u stands m);
+          location = word-within law u.word (word-listed x u (Contains-at trees (length trees - k) x e) m);
+        }
+
+    module _ (sound : IsSound f) where
+      head-shaped : (x : Tree) → Contains (subtrees root.tree) x → IsShaped (head_for f x).kind (head_for f x).payload
+      head-shaped x m = shaped-chosen (record_of f (origin x)) (tree_eq x (tree_of_record f (origin x))) (λ r e. elim (can.origins x m) [
+        | inl zero ↦ absurd (none-some r (sym (slice_get_past f.records (length f.records - origin x) (omega (arith, zero))) ∙ e))
+        | inr n ↦ (sound.records (origin x) r n e).shaped
+      ])
+
+      record-sound : (k : ℕ) (x : Tree) → IsNumberOf (length trees) k → slice_get trees (length trees - k) ≡ Some x → IsRecord made k (written_record f location trees x)
+      record-sound k x n e = record {
+        shaped = head-shaped x (written.lists.stand x (Contains-at trees (length trees - k) x e));
+        uses = All-map (IsUse made k (head_for f x).kind) (written_use location trees) (uses x)
+            (All-weaker (Contains (uses x)) (λ u. IsUse made k (head_for f x).kind (written_use location trees u)) (use-made k x n e) (uses x) (All-contains_itself (uses x)));
       }
 
-  module _ (sound : IsSound f) where
-    head-shaped : (x : Tree) → Contains (subtrees root.tree) x → IsShaped (head_for f x).kind (head_for f x).payload
-    head-shaped x m = shaped-chosen (record_of f (origin x)) (tree_eq x (tree_of_record f (origin x))) (λ r e. elim (can.origins x m) [
-      | inl zero ↦ absurd (none-some r (sym (slice_get_past f.records (length f.records - origin x) (omega (arith, zero))) ∙ e))
-      | inr n ↦ (sound.records (origin x) r n e).shaped
-    ])
+      -- ---- tables and tokens
+      few-datums : length datums < 10 ^ 18
+      few-datums = (let few = sound.tables.countable in let less = datums-few f.locations in omega (arith, few, less))
 
-    record-sound : (k : ℕ) (x : Tree) → IsNumberOf (length trees) k → slice_get trees (length trees - k) ≡ Some x → IsRecord made k (written_record f trees x)
-    record-sound k x n e = record {
-      shaped = head-shaped x (written.lists.stand x (Contains-at trees (length trees - k) x e));
-      uses = All-map (IsUse made k (head_for f x).kind) (written_use trees) (uses x)
-          (All-weaker (Contains (uses x)) (λ u. IsUse made k (head_for f x).kind (written_use trees u)) (use-made k x n e) (uses x) (All-contains_itself (uses x)));
-    }
+      tables-made : AreSoundTables made
+      tables-made = record {
+        countable = can.few_words;
+        locations = law.sound_section datums further few-datums (datums-sound f.locations sound.tables.locations) over-further;
+        curve2s = sound.tables.curve2s;
+        curves = sound.tables.curves;
+        polygons = sound.tables.polygons;
+        polygons_on = sound.tables.polygons_on;
+        surfaces = sound.tables.surfaces;
+        meshes = sound.tables.meshes;
+      }
 
-    pub written-sound : IsSound made
-    written-sound = record {
-      version = sound.version;
-      countable = subst (λ n. n < 10 ^ 18) (sym count-made) can.countable;
-      records = λ k r n e.
-          (let m = subst (λ j. IsNumberOf j k) count-made n in
-          let at = tree-made k m in
-          subst (IsRecord made k) (same_Some (written_record f trees at.0) r (sym (record-made k at.0 at.1) ∙ e)) (record-sound k at.0 m at.1));
-      depths = λ k n.
-          (let low = written.depths k (subst (λ j. IsNumberOf j k) count-made n) in
-          let same = ap (λ records. depth (tree_of_number records k)) plain-made in
-          let shallow = can.shallow in
-          omega (arith, low, same, shallow));
-      root = number-made root.tree stands-root;
-      root_location = refl;
-    }
+      tables-short : AreShort (spell_tables f)
+      tables-short = each-left Short (spell_tables f) (shape_tokens f) sound.tokens
+
+      tables-tokens : AreShort (spell_tables made)
+      tables-tokens =
+          each-append Short (section (codes "Locations") spell_location made.locations) (spell_others f)
+          (section-short (codes "Locations") spell_location made.locations (omega arith) can.few_words
+          (written-entries datums further few-datums
+          (datums-short f.locations (each-left Short (section (codes "Locations") spell_location f.locations) (spell_others f) tables-short).1.1) over-further))
+          (each-right Short (section (codes "Locations") spell_location f.locations) (spell_others f) tables-short)
+
+      -- numbers of written uses
+      use-small : (u : Use) → Contains trees u.tree → Contains (words_under f root) u.word → (number_in trees u.tree < 10 ^ 18) × (location u.word < 10 ^ 18)
+      use-small u m k =
+          let high = (written.lists.numbers u.tree m).1 in let few = can.countable in
+          let within = word-within law u.word k in let few_words = can.few_words in
+          (omega (arith, high, few), omega (arith, within, few_words))
+
+      record-tokens : (x : Tree) → Contains trees x → AreShort (spell_record (written_record f location trees x))
+      record-tokens x m =
+          record-short (written_record f location trees x) (payload-for f sound x)
+          (each-map (λ (v : FileUse). (v.number < 10 ^ 18) × (v.location < 10 ^ 18)) (written_use location trees) (uses x) (λ u k.
+          use-small u (written.lists.all u.tree (subtrees-onward root.tree x u.tree (written.lists.stand x m) (subtrees-use x u u.tree k (subtrees-itself u.tree)))) (word-listed x u m k)))
+
+      tokens-made : AreShort (spell_file made)
+      tokens-made =
+          let root_small = use-small root stands-root root-listed in
+          each-append Short (spell_tables made) (shape_tokens made) tables-tokens
+          (each-append Short (section (codes "TShapes") spell_record made.records) (spell_use made.root)
+          (section-short (codes "TShapes") spell_record made.records (omega arith) (subst (λ n. n < 10 ^ 18) (sym count-made) can.countable)
+          (each-flat_map (λ r. AreShort (spell_record r)) Short spell_record (λ r h. h) made.records
+          (each-map (λ r. AreShort (spell_record r)) (written_record f location trees) trees record-tokens)))
+          (use-short made.root root_small.0 root_small.1))
+
+      pub written-sound : IsSound made
+      written-sound = record {
+        version = sound.version;
+        tokens = tokens-made;
+        tables = tables-made;
+        countable = subst (λ n. n < 10 ^ 18) (sym count-made) can.countable;
+        records = λ k r n e.
+            (let m = subst (λ j. IsNumberOf j k) count-made n in
+            let at = tree-made k m in
+            subst (IsRecord made k) (same_Some (written_record f location trees at.0) r (sym (record-made k at.0 at.1) ∙ e)) (record-sound k at.0 m at.1));
+        depths = λ k n.
+            (let low = written.depths k (subst (λ j. IsNumberOf j k) count-made n) in
+            let same = ap (λ records. depth (tree_of_number records k)) (plain-made law) in
+            let shallow = can.shallow in
+            omega (arith, low, same, shallow));
+        root = number-made root.tree stands-root;
+        root_location = word-within law root.word root-listed;
+      }

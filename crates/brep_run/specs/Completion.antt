@@ -1,14 +1,21 @@
 -- Records by their numbers in the order of first completion, and the trees that they stand for.
-use Rattle.std.specs.Prelude.{◌≡◌, ℕ, suc, ◌+◌, ◌-◌, ◌<◌, ◌≤◌, ◌↔◌, ◌==◌, true, if◌then◌else◌, List, [], map, length, slice_index}
+use Rattle.std.specs.Prelude.{◌≡◌, ℕ, suc, ◌+◌, ◌-◌, ◌<◌, ◌≤◌, ◌↔◌, ◌==◌, true, if◌then◌else◌, List, [], ◌∷◌, ◌++◌, map, length, slice_index, Contains}
 use Rattle.std.specs.Option.{option_map_or}
+use Rattle.std.specs.List.{flat_map}
+use Rattle.location_table.specs.declared.entry.LocationEntry.{LocationEntry}
+use Rattle.location_table.specs.Words.{datums_of, word_of_place}
+use Rattle.location_table.specs.Written.{written_section}
+use Rattle.written_locations.specs.declared.written.WrittenLocations.{WrittenLocations}
+use Rattle.written_locations.specs.Further.{further_words}
+use Rattle.written_locations.specs.Met.{further_of, number_at, word_at, HasMet, IsNumbering}
 use Rattle.brep_tokens.specs.Written.{lines_text}
 use Rattle.expansion_laws.specs.Trees.{Tree, Use, uses_of}
 use Rattle.expansion_laws.specs.Equality.{tree_eq}
 use Rattle.expansion_laws.specs.Expansion.{IsNumberOf, expanded, trees_of_file}
 use Rattle.expansion_laws.specs.Walk.{RecordsAreTrees}
 use Rattle.expansion_laws.specs.Written.{completed, completed_uses}
-use Rattle.brep_file.specs.declared.file.FileUse.{FileUse}
-use Rattle.brep_file.specs.declared.file.Record.{Record}
+use Rattle.brep_file.specs.declared.uses.FileUse.{FileUse}
+use Rattle.brep_file.specs.declared.records.Record.{Record}
 use Rattle.brep_file.specs.declared.file.File.{File}
 use Rattle.brep_file.specs.PlainRecords.{plain_use, plain_records, record_of, tree_of_record}
 use Rattle.brep_run.specs.Layout.{record_lines}
@@ -34,7 +41,7 @@ pub record FirstStay (count : ℕ) (before after : List ℕ) : Type 0 where
 
 -- a use with the tree of the record that it names
 abbrev pub use_of_tree : File → FileUse → Use
-use_of_tree f u = expanded 1 (trees_of_file (plain_records f)) (plain_use u)
+use_of_tree f u = expanded 1 (trees_of_file (plain_records f)) (plain_use f.locations u)
 
 -- the numbers go on by the record's subtrees
 pub record Completes (f : File) (number : ℕ) (before after : List ℕ) : Type 0 where
@@ -48,13 +55,38 @@ pub record CompletesUses (f : File) (us : List FileUse) (before after : List ℕ
 abbrev pub new_number : List ℕ → List ℕ → ℕ → ℕ
 new_number numbers places k = if slice_index places (k - 1) == 0 then 0 else suc (length numbers - slice_index places (k - 1))
 
--- a use and a record with the new numbers
-abbrev pub renumbered_use : List ℕ → List ℕ → FileUse → FileUse
-renumbered_use numbers places u = record { turn = u.turn; number = new_number numbers places u.number; location = 0 }
+-- a use and a record with the new numbers of records and of locations
+abbrev pub renumbered_use : List ℕ → List ℕ → (ℕ → ℕ) → FileUse → FileUse
+renumbered_use numbers places location u = record { turn = u.turn; number = new_number numbers places u.number; location = location u.location }
 
-abbrev pub renumbered : List ℕ → List ℕ → Record → Record
-renumbered numbers places r = record { head = r.head; uses = map (renumbered_use numbers places) r.uses }
+abbrev pub renumbered : List ℕ → List ℕ → (ℕ → ℕ) → Record → Record
+renumbered numbers places location r = record { head = r.head; uses = map (renumbered_use numbers places location) r.uses }
 
 -- the lines of the record with a number
-abbrev pub lines_of_number : File → List ℕ → List ℕ → ℕ → List ℕ
-lines_of_number f numbers places k = option_map_or (λ r. lines_text (record_lines (renumbered numbers places r))) (record_of f k) []
+abbrev pub lines_of_number : File → List ℕ → List ℕ → (ℕ → ℕ) → ℕ → List ℕ
+lines_of_number f numbers places location k = option_map_or (λ r. lines_text (record_lines (renumbered numbers places location r))) (record_of f k) []
+
+-- ---- locations
+
+-- the locations of the record with a number: those of its data, of which there are none, and those of its uses
+abbrev pub locations_of_number : File → ℕ → List ℕ
+locations_of_number f k = option_map_or (λ r. map (λ u. u.location) r.uses) (record_of f k) []
+
+-- the locations in the records with these numbers, in their order, and that of the root use
+abbrev pub locations_used : File → List ℕ → List ℕ
+locations_used f numbers = flat_map (locations_of_number f) numbers ++ f.root.location ∷ []
+
+-- these locations of the file were met, and their words have their numbers
+pub record AreLocated (f : File) (locations : List ℕ) (s : WrittenLocations) : Type 0 where
+  pub section : s.section.now ≡ f.locations
+  pub numbering : IsNumbering s
+  pub words : further_of s ≡ further_words (map (word_of_place f.locations) locations)
+  pub met : (k : ℕ) → Contains locations k → HasMet s k
+
+-- the locations that are written: the datums, and the further words
+abbrev pub locations_of : WrittenLocations → List LocationEntry
+locations_of s = written_section (datums_of s.section.now) (further_of s)
+
+-- the new number of a location
+abbrev pub location_number : WrittenLocations → ℕ → ℕ
+location_number s k = number_at s (word_at s k)

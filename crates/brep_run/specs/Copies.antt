@@ -1,16 +1,18 @@
 -- What the text written for a root says of it.
 use Rattle.std.specs.Prelude.{◌≡◌, ℕ, length, ◌<◌, ◌^◌, ◌≤◌, ◌⊎◌, ◌↔◌, List, [], Contains}
 use Rattle.orientation.specs.Kinds.{IsBelow}
+use Rattle.location_table.specs.Words.{datums_of}
+use Rattle.location_table.specs.Written.{IsWordOver}
 use Rattle.expansion_laws.specs.Trees.{Tree, Use, uses, origin}
 use Rattle.expansion_laws.specs.Measures.{depth, subtrees}
 use Rattle.expansion_laws.specs.Expansion.{IsNumberOf}
 use Rattle.expansion_laws.specs.Sharing.{with_origins, use_with_origins, IsShared}
 use Rattle.expansion_laws.specs.Written.{flat, origins_of}
 use Rattle.brep_file.specs.declared.file.File.{File}
-use Rattle.brep_file.specs.PlainRecords.{plain_records, plain_use, expansion_of}
+use Rattle.brep_file.specs.PlainRecords.{plain_records, expansion_of, plain_root}
 use Rattle.brep_file.specs.Sound.{IsSound}
 use Rattle.brep_run.specs.Dress.{full, dress, head_for}
-use Rattle.brep_run.specs.WrittenFile.{text_of}
+use Rattle.brep_run.specs.WrittenFile.{locations_under, text_of}
 use Rattle.brep_file.specs.Reads.{Spells}
 
 -- A root over the records of a file can be written as a file again.
@@ -18,19 +20,22 @@ pub record CanBeWritten (f : File) (root : Use) : Type 0 where
   -- each origin is 0 or the number of a record
   pub origins : (x : Tree) → Contains (subtrees root.tree) x → (origin x ≡ 0) ⊎ IsNumberOf (length f.records) (origin x)
   pub in_order : (x : Tree) (u : Use) → Contains (subtrees root.tree) x → Contains (uses x) u → IsBelow (head_for f u.tree).kind (head_for f x).kind
-  -- each word is the identity
-  pub words : (x : Tree) (u : Use) → Contains (subtrees root.tree) x → Contains (uses x) u → u.word ≡ []
-  pub root_word : root.word ≡ []
+  -- each word is within the limits, and over the file's datums
+  pub words : (x : Tree) (u : Use) → Contains (subtrees root.tree) x → Contains (uses x) u → IsWordOver (length (datums_of f.locations)) u.word
+  pub root_word : IsWordOver (length (datums_of f.locations)) root.word
   pub shallow : depth root.tree ≤ 512
   pub countable : length (flat root.tree) < 10 ^ 18
+  pub few_words : length (locations_under f root) < 10 ^ 18
 
 -- The full expansion of the file `g` is the root dressed by `f`; with its origins put back, the expansion of `g` is the
--- root; and two occurrences of `g` go through one record exactly where their trees, so relabelled, are equal.
+-- root; it has the version and the datums of `f`; and two occurrences of `g` go through one record exactly where their trees,
+-- so relabelled, are equal.
 pub record StandsFor (f : File) (root : Use) (g : File) : Type 0 where
   pub dressed : full g ≡ dress f root
   pub relabelled : use_with_origins (origins_of (flat root.tree)) (expansion_of g) ≡ root
   pub version : g.version ≡ f.version
-  pub shared : IsShared (plain_records g) (plain_use g.root) (origins_of (flat root.tree))
+  pub datums : datums_of g.locations ≡ datums_of f.locations
+  pub shared : IsShared (plain_records g) (plain_root g) (origins_of (flat root.tree))
 
 -- The text spells one file, and that file stands for the root.
 pub record IsTextFor (f : File) (root : Use) (text : List ℕ) : Type 0 where

@@ -1,5 +1,5 @@
 -- What stands after a copy, whole or stopped.
-use Rattle.std.specs.Prelude.{ℕ, ◌≡◌, ◌⊎◌, ◌≤◌, IsTrue, true, false, List, length, take, Some}
+use Rattle.std.specs.Prelude.{ℕ, ◌≡◌, ◌⊎◌, ◌+◌, ◌≤◌, IsTrue, true, false, List, length, take, Some, None}
 use Rattle.brep_desk.specs.Shown.{Shown, Tells, ChangesOnly}
 use Rattle.brep_desk.specs.Whole.{NoMoreOpen}
 use Rattle.brep_desk.specs.Causes.{Rose}

@@ -6,10 +6,10 @@ use Rattle.orientation.specs.declared.kind.Kind.TheVariants.{Co}
 use Rattle.expansion_laws.specs.Trees.{LabelledUse, Tree, Use, origin}
 use Rattle.expansion_laws.specs.Equality.{tree_eq}
 use Rattle.expansion_laws.specs.Sharing.{relabelled_use}
-use Rattle.brep_file.specs.declared.file.Flags.{Flags}
-use Rattle.brep_file.specs.declared.file.Payload.{Payload}
-use Rattle.brep_file.specs.declared.file.Payload.TheVariants.{Nothing}
-use Rattle.brep_file.specs.declared.file.Head.{Head}
+use Rattle.brep_file.specs.declared.head.Flags.{Flags}
+use Rattle.brep_file.specs.declared.head.Payload.{Payload}
+use Rattle.brep_file.specs.declared.head.Payload.TheVariants.{Nothing}
+use Rattle.brep_file.specs.declared.head.Head.{Head}
 use Rattle.brep_file.specs.declared.file.File.{File}
 use Rattle.brep_file.specs.Spelling.{spell_payload}
 use Rattle.brep_file.specs.PlainRecords.{record_of, tree_of_record, expansion_of}

@@ -1,23 +1,44 @@
 -- The written layout of a file: which words stand on which line.
-use Rattle.std.specs.Prelude.{ℕ, List, [], ◌∷◌, ◌++◌, length, take, drop, codes}
+use Rattle.std.specs.Prelude.{ℕ, List, [], ◌∷◌, ◌++◌, length, map, take, drop, codes}
 use Rattle.std.specs.List.{flat_map}
+use Rattle.std.specs.Fmt.{decimal}
 use Rattle.brep_tokens.specs.Tokens.{version_line}
 use Rattle.brep_tokens.specs.Written.{lines_text}
 use Rattle.orientation.specs.Kinds.{name_of}
-use Rattle.brep_file.specs.declared.file.Payload.{Payload}
-use Rattle.brep_file.specs.declared.file.Payload.TheVariants.{Vertex, Nothing}
-use Rattle.brep_file.specs.declared.file.Record.{Record}
+use Rattle.location_table.specs.Locations.{spell_location}
+use Rattle.location_table.specs.declared.entry.LocationEntry.{LocationEntry}
+use Rattle.curve_tables.specs.Spelling.{spelling2, spelling3}
+use Rattle.mesh_tables.specs.Spelling.{spell_polygon, spell_polygon_on, spell_mesh}
+use Rattle.surface_tables.specs.Spelling.{spell_surface}
+use Rattle.brep_file.specs.declared.head.Payload.{Payload}
+use Rattle.brep_file.specs.declared.head.Payload.TheVariants.{Vertex, Nothing}
+use Rattle.brep_file.specs.declared.records.Record.{Record}
 use Rattle.brep_file.specs.declared.file.File.{File}
-use Rattle.brep_file.specs.Spelling.{spell_use, spell_flags, section}
+use Rattle.brep_file.specs.Spelling.{spell_use, spell_flags}
 
 abbrev pub Line : Type 0
 Line = List (List ℕ)
 
--- the section words and counts before the records
-abbrev pub table_lines : List Line
-table_lines =
-    section (codes "Locations") 0 [] ∷ section (codes "Curve2ds") 0 [] ∷ section (codes "Curves") 0 [] ∷ section (codes "Polygon3D") 0 []
-    ∷ section (codes "PolygonOnTriangulations") 0 [] ∷ section (codes "Surfaces") 0 [] ∷ section (codes "Triangulations") 0 [] ∷ []
+-- a section's word and the count of its entries
+abbrev pub heading : List ℕ → ℕ → Line
+heading word count = word ∷ decimal count ∷ []
+
+-- a section: its heading, and each entry on a line
+abbrev pub section_lines : {A : Type 0} → List ℕ → (A → Line) → List A → List Line
+section_lines word spell entries = heading word (length entries) ∷ map spell entries
+
+abbrev pub location_lines : List LocationEntry → List Line
+location_lines locations = section_lines (codes "Locations") spell_location locations
+
+-- the sections after the locations and before the records
+abbrev pub table_lines : File → List Line
+table_lines f =
+    section_lines (codes "Curve2ds") spelling2 f.curve2s
+    ++ (section_lines (codes "Curves") spelling3 f.curves
+    ++ (section_lines (codes "Polygon3D") spell_polygon f.polygons
+    ++ (section_lines (codes "PolygonOnTriangulations") spell_polygon_on f.polygons_on
+    ++ (section_lines (codes "Surfaces") spell_surface f.surfaces
+    ++ section_lines (codes "Triangulations") spell_mesh f.meshes))))
 
 -- of a vertex a line with the tolerance, one with the coordinates, and `0 0`
 abbrev pub payload_lines : Payload → List Line
@@ -28,9 +49,13 @@ payload_lines Nothing = []
 abbrev pub record_lines : Record → List Line
 record_lines r = (name_of r.head.kind ∷ []) ∷ (payload_lines r.head.payload ++ [] ∷ (spell_flags r.head.flags ∷ []) ∷ (flat_map spell_use r.uses ++ codes "*" ∷ []) ∷ [])
 
+-- the heading of the records, the records and the root use
+abbrev pub shape_lines : File → List Line
+shape_lines f = heading (codes "TShapes") (length f.records) ∷ (flat_map record_lines f.records ++ spell_use f.root ∷ [])
+
 -- the lines after the version line
 abbrev pub file_lines : File → List Line
-file_lines f = table_lines ++ (section (codes "TShapes") (length f.records) [] ∷ (flat_map record_lines f.records ++ spell_use f.root ∷ []))
+file_lines f = (location_lines f.locations ++ table_lines f) ++ shape_lines f
 
 -- the text of a file by the written layout
 abbrev pub layout : File → List ℕ

@@ -1,5 +1,5 @@
 -- What remains of a file's records when some are removed, record by record.
-use Rattle.std.specs.Prelude.{◌≡◌, ℕ, zero, suc, ◌-◌, ◌==◌, ◌&&◌, ◌||◌, not, Bool, true, false, if◌then◌else◌, Some, List, [], ◌∷◌, ◌++◌, map, length, reverse, slice_index}
+use Rattle.std.specs.Prelude.{◌≡◌, ℕ, zero, suc, ◌-◌, ◌==◌, ◌&&◌, ◌||◌, not, Bool, true, false, if◌then◌else◌, Some, List, [], ◌∷◌, ◌++◌, map, filter, length, reverse, slice_index, slice_index_or}
 use Rattle.std.specs.List.{list_any}
 use Rattle.orientation.specs.declared.kind.Kind.{Kind}
 use Rattle.orientation.specs.declared.kind.Kind.TheVariants.{Ve, Ed, Fa, So}
@@ -7,8 +7,8 @@ use Rattle.orientation.specs.declared.turn.Turn.TheVariants.{Forward}
 use Rattle.expansion_laws.specs.Trees.{Tree, Use, a_single, tree_of}
 use Rattle.expansion_laws.specs.Equality.{tree_eq}
 use Rattle.expansion_laws.specs.Expansion.{NumberedUse, IsNumberOf, tree_of_number}
-use Rattle.brep_file.specs.declared.file.FileUse.{FileUse}
-use Rattle.brep_file.specs.declared.file.Record.{Record}
+use Rattle.brep_file.specs.declared.uses.FileUse.{FileUse}
+use Rattle.brep_file.specs.declared.records.Record.{Record}
 use Rattle.brep_file.specs.declared.file.File.{File}
 use Rattle.brep_file.specs.Marks.{kept_uses, mark_of}
 use Rattle.brep_file.specs.PlainRecords.{plain_use, record_of, tree_of_record, expansion_of}
@@ -27,7 +27,7 @@ pub record AreMarks (n : ℕ) (numbers : List ℕ) (marks : List Bool) : Type 0 
 
 -- the records with the uses that are kept, without their data
 abbrev pub kept_records : File → (ℕ → Bool) → List (List NumberedUse)
-kept_records f removed = map (λ r. map plain_use (kept_uses removed r.uses)) f.records
+kept_records f removed = map (λ r. map (plain_use f.locations) (kept_uses removed r.uses)) f.records
 
 -- the tree of a record after the removal
 abbrev pub tree_after : File → (ℕ → Bool) → ℕ → Tree
@@ -37,10 +37,9 @@ tree_after f removed k = tree_of_number (kept_records f removed) k
 abbrev pub record_after : File → (ℕ → Bool) → ℕ → Record → Record
 record_after f removed k r = record { head = head_for f (tree_after f removed k); uses = kept_uses removed r.uses }
 
--- the file with the uses that are kept
+-- the file with the uses that are kept; all but its records stays
 pub record IsFileAfter (f : File) (removed : ℕ → Bool) (g : File) : Type 0 where
-  pub version : g.version ≡ f.version
-  pub root : g.root ≡ f.root
+  pub others : g ≡ record f { records = g.records }
   pub size : length g.records ≡ length f.records
   pub records : (k : ℕ) (r : Record) → IsNumberOf (length f.records) k → record_of f k ≡ Some r → record_of g k ≡ Some (record_after f removed k r)
 

@@ -42,7 +42,7 @@ pub record HoldsScript (old : Shown) (script lines : List ℕ) : Type 0 where
 
 -- how many locations a file has
 abbrev pub location_count : File → ℕ
-location_count f = 0
+location_count f = length f.locations
 
 -- what a script gives for a file
 abbrev pub given_for : File → List ℕ → ScriptGiven

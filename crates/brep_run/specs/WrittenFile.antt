@@ -1,28 +1,59 @@
 -- The file that a root is written as.
-use Rattle.std.specs.Prelude.{ℕ, List, map}
+use Rattle.std.specs.Prelude.{ℕ, List, [], ◌∷◌, ◌++◌, length, map}
+use Rattle.std.specs.List.{flat_map}
 use Rattle.location_words.specs.declared.pair.Pair.{Pair}
+use Rattle.location_table.specs.Words.{datums_of}
+use Rattle.location_table.specs.Written.{written_section}
+use Rattle.location_table.specs.declared.entry.LocationEntry.{LocationEntry}
+use Rattle.written_locations.specs.Further.{further_words, number_of_word}
 use Rattle.expansion_laws.specs.Trees.{Tree, Use, uses}
 use Rattle.expansion_laws.specs.Written.{flat, number_in}
-use Rattle.brep_file.specs.declared.file.FileUse.{FileUse}
-use Rattle.brep_file.specs.declared.file.Record.{Record}
+use Rattle.brep_file.specs.declared.head.Payload.{Payload}
+use Rattle.brep_file.specs.declared.head.Payload.TheVariants.{Vertex, Nothing}
+use Rattle.brep_file.specs.declared.uses.FileUse.{FileUse}
+use Rattle.brep_file.specs.declared.records.Record.{Record}
 use Rattle.brep_file.specs.declared.file.File.{File}
 use Rattle.brep_run.specs.Dress.{head_for}
 use Rattle.brep_run.specs.Layout.{layout}
 
--- the number of a word's location: the identity, which has 0, is the only word
-abbrev pub location_of : List Pair → ℕ
-location_of word = 0
+-- ---- locations
 
--- a use by the number of its tree among those written
-abbrev pub written_use : List Tree → Use → FileUse
-written_use trees u = record { turn = u.turn; number = number_in trees u.tree; location = location_of u.word }
+-- the words in a record's data: a vertex without representations has none
+abbrev pub words_of_data : Payload → List (List Pair)
+words_of_data (Vertex d) = []
+words_of_data Nothing = []
 
-abbrev pub written_record : File → List Tree → Tree → Record
-written_record f trees x = record { head = head_for f x; uses = map (written_use trees) (uses x) }
+-- the words in the record of a tree: those of its data, and then those of its uses
+abbrev pub words_of_tree : File → Tree → List (List Pair)
+words_of_tree f x = words_of_data (head_for f x).payload ++ map (λ u. u.word) (uses x)
 
--- one record for each distinct tree below and at the root, in the order of first completion
+-- the words in the records of a root, in their order, and that of the root use
+abbrev pub words_under : File → Use → List (List Pair)
+words_under f root = flat_map (words_of_tree f) (flat root.tree) ++ root.word ∷ []
+
+-- the file's datums, and then each word once that occurs and is neither the identity nor one datum, in the order in which they first occur
+abbrev pub locations_under : File → Use → List LocationEntry
+locations_under f root = written_section (datums_of f.locations) (further_words (words_under f root))
+
+-- the number of a word's location
+abbrev pub location_under : File → Use → List Pair → ℕ
+location_under f root word = number_of_word (length (datums_of f.locations)) (further_words (words_under f root)) word
+
+-- ---- records
+
+abbrev pub written_use : (List Pair → ℕ) → List Tree → Use → FileUse
+written_use location trees u = record { turn = u.turn; number = number_in trees u.tree; location = location u.word }
+
+abbrev pub written_record : File → (List Pair → ℕ) → List Tree → Tree → Record
+written_record f location trees x = record { head = head_for f x; uses = map (written_use location trees) (uses x) }
+
+-- One record for each distinct tree below and at the root, in the order of first completion; the tables stay as they are.
 abbrev pub written_file : File → Use → File
-written_file f root = record { version = f.version; records = map (written_record f (flat root.tree)) (flat root.tree); root = written_use (flat root.tree) root }
+written_file f root = record f {
+  locations = locations_under f root;
+  records = map (written_record f (location_under f root) (flat root.tree)) (flat root.tree);
+  root = written_use (location_under f root) (flat root.tree) root;
+}
 
 -- the text that is written for a root over a file's records
 abbrev pub text_of : File → Use → List ℕ

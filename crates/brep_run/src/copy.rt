@@ -11,11 +11,19 @@ use crate::outcome::{LimitKind, Outcome};
 use crate::writer::copy_text;
 use brep_desk::{Desk, ReadAll, read_all, write_all};
 use brep_file::laws::reading_is_exact;
-use brep_file::{Stop, read_file};
+use brep_file::read_file;
+use brep_tokens::ReadStop;
 use std::alloc::Global;
 
 /// The greatest number of bytes of a file that is read.
 pub(crate) const FILE_BYTES: u64 = 67_108_864;
+
+/// Why there is no text of a copy: the bytes are of a form that is not read, or memory ran out.
+#[derive(Clone, Copy, Debug, PartialEq, Eq)]
+enum Stop {
+    NotBuilt,
+    NoMemory,
+}
 
 /// The text of the copy of a file's bytes, which are let go as soon as they are read.
 fn text_for(alloc: Global, bytes: Vec<u8>) -> Result<Vec<u8>, Stop>
@@ -26,7 +34,8 @@ fn text_for(alloc: Global, bytes: Vec<u8>) -> Result<Vec<u8>, Stop>
     let room = bytes.len();
     let file = match read_file(alloc, bytes) {
         Ok(file) => file,
-        Err(stop) => return Err(stop),
+        Err(ReadStop::Fault(_)) => return Err(Stop::NotBuilt),
+        Err(ReadStop::NoMemory) => return Err(Stop::NoMemory),
     };
     match copy_text(alloc, &file, room) {
         Ok(text) => Ok(text),

@@ -3,7 +3,11 @@ ghost use Rattle.brep_run.specs.Copies.{TextsStandForRoots};
 
 use brep_file::laws::reading_is_exact;
 use brep_tokens::laws::written_is_read;
+use curve_tables::laws::curves_are_exact;
 use expansion_laws::laws::{fewest, records_are_trees, roots_are_written};
+use location_table::laws::{locations_are_exact, places_have_words, written_is_held};
+use mesh_tables::laws::meshes_are_exact;
+use surface_tables::laws::surfaces_are_exact;
 
 /// The text that is written for a root spells one file, which stands for that root.
 pub fn texts_stand_for_roots()
@@ -14,4 +18,10 @@ pub fn texts_stand_for_roots()
     records_are_trees();
     fewest();
     reading_is_exact();
+    locations_are_exact();
+    places_have_words();
+    written_is_held();
+    curves_are_exact();
+    surfaces_are_exact();
+    meshes_are_exact();
 }

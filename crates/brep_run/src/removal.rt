@@ -36,16 +36,16 @@ pub(crate) struct Removal {
 }
 
 /// The removal of the root: a compound without uses is made in its place.
-fn root_goes(alloc: Global, file: &File, before: &Order) -> Result<Removal, AllocError>
+fn root_goes(alloc: Global, file: &File, before: &Order, room: usize) -> Result<Removal, AllocError>
     requires placed { ArePlaced (length file.now.records) before.now.numbers.items before.now.places.items }
-    requires version { file.now.version ≡ 1 }
+    requires sound { IsSound file.now }
     ensures { IfOk result (λ r. RootGoes file.now before.now.places.items r.text.items r.origins r.modified r.removed) }
 {
     let after = Order::new(alloc, file.records.len())?;
     let mut origins = Numbers::new(alloc);
     origins.push(0)?;
     Ok(Removal {
-        text: made_text(alloc)?,
+        text: made_text(alloc, file, room)?,
         origins,
         modified: NumberPairs::new(alloc),
         removed: gone_numbers(alloc, file, before, &after)?,
@@ -97,7 +97,7 @@ pub(crate) fn without(
     let marks = marked(alloc, file.records.len(), numbers)?;
     let before = order_of(alloc, &file)?;
     if is_marked(&marks, file.root.number as usize) {
-        root_goes(alloc, &file, &before)
+        root_goes(alloc, &file, &before, room)
     } else {
         root_stays(alloc, file, &before, &marks, room)
     }

@@ -17,7 +17,8 @@ use crate::removal::without;
 use crate::script::{ScriptStop, removed_numbers};
 use brep_desk::{Desk, ReadAll, read_all};
 use brep_file::laws::reading_is_exact;
-use brep_file::{File, Stop, read_file};
+use brep_file::{File, read_file};
+use brep_tokens::ReadStop;
 use expansion_laws::laws::roots_are_written;
 use history_text::{HistoryFile, NumberPairs, emit};
 use script_text::line_count;
@@ -166,8 +167,8 @@ pub(crate) fn rewrite<D: Desk>(
     let room = bytes.len();
     let file = match read_file(alloc, bytes) {
         Ok(file) => file,
-        Err(Stop::NotBuilt) => return Outcome::NotBuilt,
-        Err(Stop::NoMemory) => return Outcome::NoMemory,
+        Err(ReadStop::Fault(_)) => return Outcome::NotBuilt,
+        Err(ReadStop::NoMemory) => return Outcome::NoMemory,
     };
     let before = desk.faults();
     let lines = match read_all(alloc, desk, script, SCRIPT_BYTES) {
@@ -193,7 +194,8 @@ pub(crate) fn rewrite<D: Desk>(
         };
     }
     let shapes = file.records.len();
-    let numbers = match removed_numbers(alloc, &lines, shapes as u32, 0) {
+    let locations = file.locations.len();
+    let numbers = match removed_numbers(alloc, &lines, shapes as u32, locations) {
         Ok(numbers) => numbers,
         Err(ScriptStop::Refused(fault)) => return Outcome::Script(fault),
         Err(ScriptStop::NotBuilt) => return Outcome::NotBuilt,

@@ -1,48 +1,96 @@
-//! The written layout of a file: its records in the order of first completion, each in its lines.
+//! The written layout of a file: its locations and tables, and its records in the order of first completion.
 ghost use Rattle.brep_file.specs.declared.file.File.{File};
-ghost use Rattle.brep_run.specs.Completion.{ArePlaced, Completes, NumbersTell, lines_of_number};
 ghost use Rattle.brep_file.specs.PlainRecords.{expansion_of};
-ghost use Rattle.brep_run.specs.Remaining.{made_root};
 ghost use Rattle.brep_file.specs.Sound.{IsSound};
-ghost use Rattle.brep_run.specs.WrittenFile.{text_of};
+ghost use Rattle.brep_run.specs.Completion.{ArePlaced, AreLocated, Completes, NumbersTell, lines_of_number, location_number, locations_of, locations_used};
+ghost use Rattle.brep_run.specs.Layout.{location_lines, shape_lines, table_lines};
+ghost use Rattle.brep_run.specs.Remaining.{made_root};
+ghost use Rattle.brep_run.specs.WrittenFile.{text_of, written_file};
+ghost use Rattle.brep_tokens.specs.Written.{lines_text};
 ghost use Rattle.std.specs.List.{flat_map};
 ghost use Rattle.std.specs.Prelude.{◌≡◌, ◌++◌, IfOk, OnOk, [], length};
+ghost use Rattle.written_locations.specs.Met.{IsNumbering};
 
 mod lines;
+mod locations;
 mod order;
+mod tables;
 
 use brep_file::File;
 use expansion_laws::laws::{equal_trees_tell, records_are_trees};
-use lines::{push_number, push_record, push_use};
+use lines::{push_heading, push_record, push_use};
+use locations::{locations_in, push_locations};
 pub(crate) use order::{Order, order_of, record_at};
 use std::alloc::{AllocError, Global};
+use tables::push_tables;
+use written_locations::WrittenLocations;
 
-/// The version line, the sections without entries, and the word before the count of records.
-const BEFORE_COUNT: &[u8] =
-    b"CASCADE Topology V1, (c) Matra-Datavision\nLocations 0\nCurve2ds 0\nCurves 0\nPolygon3D 0\nPolygonOnTriangulations 0\nSurfaces 0\nTriangulations 0\nTShapes ";
+/// The version line.
+const VERSION_LINE: &[u8] = b"CASCADE Topology V1, (c) Matra-Datavision\n";
 
-/// The count, the record and the root use of a compound without uses that is made as the root.
-const MADE_COMPOUND: &[u8] = b"1\nCo\n\n1101000\n*\n+1 0\n";
+/// The lines of a compound without uses that is made as the root, and of its use.
+const MADE_COMPOUND: &[u8] = b"TShapes 1\nCo\n\n1101000\n*\n+1 0\n";
 
-/// The text before the count of records, with room for so many bytes in all.
-fn begun_text(alloc: Global, room: usize) -> Result<Vec<u8>, AllocError>
-    ensures { IfOk result (λ text. text.items ≡ BEFORE_COUNT.now) }
+/// The version line, the locations and the tables, in a text with room for so many bytes in all.
+fn begun_text(
+    alloc: Global,
+    file: &File,
+    locations: &WrittenLocations<'_>,
+    room: usize,
+) -> Result<Vec<u8>, AllocError>
+    requires sound { IsSound file.now }
+    requires numbering { IsNumbering locations.now }
+    requires section { locations.now.section.now ≡ file.now.locations }
+    ensures { IfOk result (λ text. text.items ≡ (VERSION_LINE.now ++ lines_text (location_lines (locations_of locations.now))) ++ lines_text (table_lines file.now)) }
 {
     let mut text = Vec::with_capacity(alloc, room)?;
-    text.extend_from_slice(BEFORE_COUNT)?;
+    text.extend_from_slice(VERSION_LINE)?;
+    push_locations(&mut text, locations)?;
+    push_tables(&mut text, file)?;
     Ok(text)
 }
 
 /// The lines of the records in their order.
-fn push_records(text: &mut Vec<u8>, file: &File, order: &Order) -> Result<(), AllocError>
+fn push_records(
+    text: &mut Vec<u8>,
+    file: &File,
+    order: &Order,
+    locations: &WrittenLocations<'_>,
+) -> Result<(), AllocError>
     requires tell { NumbersTell file.now }
     requires placed { ArePlaced (length file.now.records) order.now.numbers.items order.now.places.items }
+    requires located { AreLocated file.now (locations_used file.now order.now.numbers.items) locations.now }
     ensures { OnOk result (text.new.items ≡ text.old.items
-        ++ flat_map (lines_of_number file.now order.now.numbers.items order.now.places.items) order.now.numbers.items) }
+        ++ flat_map (lines_of_number file.now order.now.numbers.items order.now.places.items (location_number locations.now)) order.now.numbers.items) }
 {
     for number in order.numbers() {
-        push_record(text, record_at(file, *number as usize), order)?;
+        push_record(text, record_at(file, *number as usize), order, locations)?;
     }
+    Ok(())
+}
+
+/// The records and the root use.
+fn push_shapes(
+    text: &mut Vec<u8>,
+    file: &File,
+    order: &Order,
+    locations: &WrittenLocations<'_>,
+) -> Result<(), AllocError>
+    requires tell { NumbersTell file.now }
+    requires placed { ArePlaced (length file.now.records) order.now.numbers.items order.now.places.items }
+    requires completed { Completes file.now file.now.root.number [] order.now.numbers.items }
+    requires located { AreLocated file.now (locations_used file.now order.now.numbers.items) locations.now }
+    ensures { OnOk result (text.new.items ≡ text.old.items ++ lines_text (shape_lines (written_file file.now (expansion_of file.now)))) }
+{
+    push_heading(text, b"TShapes", order.numbers().len())?;
+    push_records(text, file, order, locations)?;
+    push_use(
+        text,
+        file.root.turn,
+        order.new_number(file.root.number as usize),
+        locations.number(file.root.location),
+        b'\n',
+    )?;
     Ok(())
 }
 
@@ -58,16 +106,9 @@ pub(crate) fn text_in_order(
     requires completed { Completes file.now file.now.root.number [] order.now.numbers.items }
     ensures { IfOk result (λ text. text.items ≡ text_of file.now (expansion_of file.now)) }
 {
-    let mut text = begun_text(alloc, room)?;
-    push_number(&mut text, order.numbers().len())?;
-    text.push(b'\n')?;
-    push_records(&mut text, file, order)?;
-    push_use(
-        &mut text,
-        file.root.turn,
-        order.new_number(file.root.number as usize),
-        b'\n',
-    )?;
+    let locations = locations_in(alloc, file, order)?;
+    let mut text = begun_text(alloc, file, &locations, room)?;
+    push_shapes(&mut text, file, order, &locations)?;
     Ok(text)
 }
 
@@ -83,11 +124,14 @@ pub(crate) fn copy_text(alloc: Global, file: &File, room: usize) -> Result<Vec<u
     text_in_order(alloc, file, &order, room)
 }
 
-/// The text of a compound without uses that is made as the root.
-pub(crate) fn made_text(alloc: Global) -> Result<Vec<u8>, AllocError>
-    ensures { IfOk result (λ text. (f : File) → f.version ≡ 1 → text.items ≡ text_of f made_root) }
+/// The text of a compound without uses that is made as the root: the file's tables and datums stay. `room` is how many bytes
+/// are expected.
+pub(crate) fn made_text(alloc: Global, file: &File, room: usize) -> Result<Vec<u8>, AllocError>
+    requires { IsSound file.now }
+    ensures { IfOk result (λ text. text.items ≡ text_of file.now made_root) }
 {
-    let mut text = begun_text(alloc, BEFORE_COUNT.len() + MADE_COMPOUND.len())?;
+    let locations = WrittenLocations::new(alloc, &file.locations)?;
+    let mut text = begun_text(alloc, file, &locations, room)?;
     text.extend_from_slice(MADE_COMPOUND)?;
     Ok(text)
 }

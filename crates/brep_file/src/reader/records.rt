@@ -1,44 +1,76 @@
-//! The records of a file, one after another.
-ghost use Rattle.brep_file.specs.Readers.{Gives, IsReading, so_far_of, texts_left};
-ghost use Rattle.brep_file.specs.RecordReading.{nothing_read, record_at, records_from};
-ghost use Rattle.std.specs.Prelude.{◌≡◌, ◌≤◌, OnOk};
+//! The reader of so many records.
+ghost use Rattle.brep_file.specs.RecordLeft.{AreWaitingRecords, bounds_of, records_left, so_far_of};
+ghost use Rattle.brep_file.specs.RecordReading.{nothing_read, record_at};
+ghost use Rattle.brep_file.specs.Many.{many_from};
+ghost use Rattle.brep_tokens.specs.declared.text.Token.{Token};
+ghost use Rattle.entry_readers.specs.Reading.{more};
+ghost use Rattle.entry_readers.specs.Takes.{Takes};
+ghost use Rattle.std.specs.Prelude.{◌≡◌, ◌<◌, List, [], Ok, Err};
 
-use crate::file::{Head, Record, Records};
-use crate::reader::head::head;
-use crate::reader::state::SoFar;
-use crate::reader::uses::record_uses;
-use crate::stop::Stop;
-use brep_tokens::Scanner;
+use crate::reader::record::RecordReader;
+use crate::reader::state::{Bounds, SoFar};
+use brep_tokens::{Progress, ReadStop, Token};
 use std::alloc::Global;
+use std::mem;
 
-/// How many uses the records of a file may have together.
-pub(crate) const MOST_USES: u32 = 16_777_216;
-
-/// Reads a record, one of so many, and appends it.
-#[tactic(auto, unfolding(crate::specs::RecordReading::record_at))]
-fn take_record(alloc: Global, s: &mut Scanner, count: u32, so_far: &mut SoFar) -> Result<(), Stop>
-    requires reading { IsReading s.old }
-    requires within { so_far.old.uses ≤ MOST_USES }
-    ensures given { Gives (λ _. so_far_of so_far.new) s.new result (record_at MOST_USES count (so_far_of so_far.old) (texts_left s.old)) }
-    ensures within { OnOk result (so_far.new.uses ≤ MOST_USES) }
-{
-    let head = head(alloc, s)?;
-    let room = MOST_USES - so_far.uses;
-    let gathered = record_uses(alloc, s, count, head.kind, &so_far.seen, room)?;
-    so_far.push(head, gathered)
+/// Takes the tokens of so many records. The number that a file claims takes no memory before its records come.
+#[derive(Drop)]
+pub(crate) struct RecordsReader {
+    bounds: Bounds,
+    so_far: SoFar,
+    due: u32,
+    reader: RecordReader,
+    alloc: Global,
 }
 
-/// So many records.
-pub(crate) fn records(alloc: Global, s: &mut Scanner, count: u32) -> Result<SoFar, Stop>
-    requires { IsReading s.old }
-    ensures { Gives so_far_of s.new result (records_from count MOST_USES count nothing_read (texts_left s.old)) }
-{
-    let mut so_far = SoFar::new(alloc);
-    'records: for _ in 0..count {
-        match take_record(alloc, s, count, &mut so_far) {
-            Ok(()) => {}
-            Err(stop) => return Err(stop),
+impl RecordsReader {
+    /// No token was taken yet.
+    pub(crate) fn new(alloc: Global, bounds: Bounds) -> RecordsReader
+        requires { 0 < bounds.records }
+        ensures left { (ts : List Token) → records_left result ts ≡ many_from (record_at (bounds_of bounds)) nothing_read bounds.records ts }
+        ensures waits { AreWaitingRecords result }
+        ensures open { records_left result [] ≡ Err more }
+    {
+        RecordsReader {
+            bounds,
+            so_far: SoFar::new(alloc),
+            due: bounds.records,
+            reader: RecordReader::new(alloc),
+            alloc,
         }
     }
-    Ok(so_far)
+
+    /// Takes a token.
+    pub(crate) fn take(&mut self, t: &Token) -> Result<Progress, ReadStop>
+        requires { AreWaitingRecords self.old }
+        ensures { Takes (records_left self.old) t.now (records_left self.new) (AreWaitingRecords self.new) (self.new.due ≡ 0) result }
+    {
+        match self.reader.take(t, self.bounds, &self.so_far) {
+            Err(e) => Err(e),
+            Ok(Progress::More) => Ok(Progress::More),
+            Ok(Progress::Whole) => {
+                let reader = mem::replace(&mut self.reader, RecordReader::new(self.alloc));
+                let (head, gathered) = reader.done();
+                match self.so_far.push(head, gathered) {
+                    Err(_) => Err(ReadStop::NoMemory),
+                    Ok(()) => {
+                        self.due -= 1;
+                        if self.due == 0 {
+                            Ok(Progress::Whole)
+                        } else {
+                            Ok(Progress::More)
+                        }
+                    }
+                }
+            }
+        }
+    }
+
+    /// The records, and what is known of them.
+    pub(crate) fn done(self) -> SoFar
+        requires { self.due ≡ 0 }
+        ensures { (rest : List Token) → records_left self rest ≡ Ok (so_far_of result, rest) }
+    {
+        self.so_far
+    }
 }

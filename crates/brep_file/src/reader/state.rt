@@ -1,13 +1,24 @@
 //! What is known of the records that were read.
-ghost use Rattle.brep_file.specs.Readers.{gathered_of, so_far_of};
+ghost use Rattle.brep_file.specs.RecordLeft.{gathered_of, most_uses, so_far_of};
 ghost use Rattle.brep_file.specs.RecordReading.{gathered, none_gathered, nothing_read, with_record};
-ghost use Rattle.std.specs.Prelude.{◌≡◌, ◌+◌, ◌<◌, ◌^◌, IfErr, OnOk, length};
+ghost use Rattle.std.specs.Prelude.{◌≡◌, ◌+◌, ◌<◌, ◌≤◌, OnOk, length};
 
-use crate::file::{FileUse, FileUses, Head, Record, Records};
-use crate::stop::Stop;
+use crate::head::Head;
+use crate::records::{Record, Records};
+use crate::uses::{FileUse, FileUses};
 use orientation::{Kind, Turn};
-use std::alloc::Global;
+use std::alloc::{AllocError, Global};
 use std::marker::Model;
+
+/// How many uses the records of a file may have together.
+pub(crate) const MOST_USES: u32 = 16_777_216;
+
+/// How many locations and records there are.
+#[derive(Clone, Copy)]
+pub(crate) struct Bounds {
+    pub(crate) locations: u32,
+    pub(crate) records: u32,
+}
 
 /// What later records need to know of a record: its kind, and the depth of its tree.
 #[derive(Clone, Copy)]
@@ -17,7 +28,7 @@ pub(crate) struct Seen {
 }
 
 impl Model for Seen {
-    ghost use Rattle.brep_file.specs.RecordReading.{Seen};
+    ghost use Rattle.brep_file.specs.Seen.{Seen};
 
     ghost Value = { Seen };
 
@@ -40,6 +51,14 @@ impl Seen {
     }
 }
 
+/// A use's turn and number, and what is known of the record that it names.
+#[derive(Clone, Copy)]
+pub(crate) struct Named {
+    pub(crate) turn: Turn,
+    pub(crate) number: u32,
+    pub(crate) child: Seen,
+}
+
 /// The uses of a record so far, and the greatest depth of the trees that they name.
 #[derive(Drop)]
 pub(crate) struct Gathered {
@@ -57,22 +76,21 @@ impl Gathered {
         }
     }
 
-    /// A use more, of a child that is known.
-    pub(crate) fn push(&mut self, turn: Turn, number: u32, child: Seen) -> Result<(), Stop>
-        ensures ok { OnOk result (gathered_of self.new ≡ gathered (gathered_of self.old) (turn, number) child) }
-        ensures err { IfErr result (λ e. e ≡ Stop.NoMemory) }
+    /// A use more, with its location.
+    pub(crate) fn push(&mut self, named: Named, location: u32) -> Result<(), AllocError>
+        ensures { OnOk result (gathered_of self.new ≡ gathered (gathered_of self.old) named location) }
     {
         let item = FileUse {
-            turn,
-            number,
-            location: 0,
+            turn: named.turn,
+            number: named.number,
+            location,
         };
         match self.uses.push(item) {
             Ok(()) => {
-                self.depth = self.depth.max(child.depth());
+                self.depth = self.depth.max(named.child.depth());
                 Ok(())
             }
-            Err(_) => Err(Stop::NoMemory),
+            Err(e) => Err(e),
         }
     }
 }
@@ -97,11 +115,10 @@ impl SoFar {
     }
 
     /// A record more.
-    pub(crate) fn push(&mut self, head: Head, gathered: Gathered) -> Result<(), Stop>
+    pub(crate) fn push(&mut self, head: Head, gathered: Gathered) -> Result<(), AllocError>
         requires depth { gathered.depth < 512 }
-        requires uses { self.old.uses + length gathered.uses < 2 ^ 32 }
-        ensures ok { OnOk result (so_far_of self.new ≡ with_record (so_far_of self.old) head (gathered_of gathered)) }
-        ensures err { IfErr result (λ e. e ≡ Stop.NoMemory) }
+        requires uses { self.old.uses + length gathered.uses ≤ most_uses }
+        ensures { OnOk result (so_far_of self.new ≡ with_record (so_far_of self.old) head (gathered_of gathered)) }
     {
         let seen = Seen {
             kind: head.kind,
@@ -114,11 +131,11 @@ impl SoFar {
         };
         match self.records.push(record) {
             Ok(()) => {}
-            Err(_) => return Err(Stop::NoMemory),
+            Err(e) => return Err(e),
         }
         match self.seen.push(seen) {
             Ok(_) => {}
-            Err(_) => return Err(Stop::NoMemory),
+            Err(_) => return Err(AllocError),
         }
         self.uses += uses;
         Ok(())

@@ -1,58 +1,33 @@
-//! The uses of a record.
-ghost use Rattle.brep_file.specs.Readers.{Gives, IsReading, gathered_of, texts_left};
-ghost use Rattle.brep_file.specs.RecordReading.{is_star, none_gathered, seen_at, use_from, uses_from};
-ghost use Rattle.std.specs.Prelude.{◌≡◌, ◌+◌, ◌<◌, ◌≤◌, ◌^◌, suc, IfOk, OnOk, length};
+//! The reader of a record's uses.
+ghost use Rattle.brep_file.specs.RecordLeft.{AreDoneUses, AreFew, HasRoom, IsWaitingUses, Says, at_uses, bounds_of, gathered_of, most_uses, so_far_of, uses_left};
+ghost use Rattle.brep_file.specs.RecordReading.{Bounds as ReadBounds, SoFar as ReadSoFar, above_at, fitting, is_star, named, named_at, none_gathered, use_of, uses_from};
+ghost use Rattle.brep_file.specs.declared.reader.uses.Stage.TheVariants as stages;
+ghost use Rattle.brep_tokens.specs.declared.text.Token.{Token};
+ghost use Rattle.entry_readers.specs.Reading.{more};
+ghost use Rattle.entry_readers.specs.Takes.{Takes};
+ghost use Rattle.orientation.specs.Kinds.{rank_of};
+ghost use Rattle.orientation.specs.declared.kind.Kind.{Kind};
+ghost use Rattle.std.specs.Prelude.{◌≡◌, ◌+◌, ◌<◌, ◌≤◌, ℕ, List, [], Ok, Err, IfOk, length};
 
-use crate::reader::fields::{token, use_text, word};
-use crate::reader::state::{Gathered, Seen};
-use crate::stop::Stop;
-use brep_tokens::Scanner;
-use orientation::{Kind, below};
+use crate::reader::state::{Bounds, Gathered, MOST_USES, Named, Seen, SoFar};
+use brep_tokens::{Progress, ReadCode, ReadFault, ReadStop, Token, number};
+use entry_readers::{fault_at, ranged_due};
+use orientation::{Kind, Turn, below, of_sign};
 use std::alloc::Global;
 
-/// What is known of the record above, of so many, that a number names.
-fn record_above(count: u32, seen: &[Seen], number: u64) -> Option<Seen>
-    ensures { result ≡ seen_at count seen.now number }
+/// The turn and the number that a text joins.
+pub(crate) fn signed_number(text: &[u8]) -> Option<(Turn, u64)>
+    ensures { result ≡ use_of text.now }
 {
-    if number > count as u64 {
-        return None;
-    }
-    match seen.get((count as u64 - number) as usize) {
-        Some(child) => Some(*child),
-        None => None,
-    }
-}
-
-/// Reads the rest of a use that begins with this text, and appends the use.
-#[tactic(auto, unfolding(crate::specs::RecordReading::use_from))]
-fn take_use(
-    s: &mut Scanner,
-    count: u32,
-    parent: Kind,
-    seen: &[Seen],
-    gathered: &mut Gathered,
-    text: &[u8],
-) -> Result<(), Stop>
-    requires reading { IsReading s.old }
-    requires shallow { gathered.old.depth < 512 }
-    ensures given { Gives (λ _. gathered_of gathered.new) s.new result (use_from count parent seen.now (gathered_of gathered.old) text.now (texts_left s.old)) }
-    ensures shallow { OnOk result (gathered.new.depth < 512) }
-    ensures one { OnOk result (length gathered.new.uses ≡ length gathered.old.uses + 1) }
-{
-    let (turn, number) = match use_text(text) {
-        Some(signed) => signed,
-        None => return Err(Stop::NotBuilt),
-    };
-    word(s, b"0")?;
-    match record_above(count, seen, number) {
-        None => Err(Stop::NotBuilt),
-        Some(child) => {
-            if below(child.kind(), parent) && child.depth() < 512 {
-                gathered.push(turn, number as u32, child)
-            } else {
-                Err(Stop::NotBuilt)
-            }
-        }
+    match text {
+        [] => None,
+        [b, rest @ ..] => match of_sign(*b) {
+            None => None,
+            Some(turn) => match number(rest) {
+                None => None,
+                Some(n) => Some((turn, n)),
+            },
+        },
     }
 }
 
@@ -62,34 +37,183 @@ fn star(text: &[u8]) -> bool
     text == b"*".as_slice()
 }
 
-/// The uses of a record of the kind `parent`, at most `room` of them, and the `*` after the last.
-pub(crate) fn record_uses(
-    alloc: Global,
-    s: &mut Scanner,
-    count: u32,
-    parent: Kind,
-    seen: &[Seen],
-    room: u32,
-) -> Result<Gathered, Stop>
-    requires reading { IsReading s.old }
-    requires room { room < 2 ^ 31 }
-    ensures given { Gives gathered_of s.new result (uses_from (suc room) count parent seen.now none_gathered (texts_left s.old)) }
-    ensures shallow { IfOk result (λ g. g.depth < 512) }
-    ensures within { IfOk result (λ g. length g.uses ≤ room) }
+/// What is known of the record above, of so many, that a number names.
+fn above(records: u32, seen: &[Seen], number: u64, t: &Token) -> Result<Seen, ReadFault>
+    requires { length seen.now < records }
+    ensures says { Says (above_at records seen.now t.now number) result }
+    ensures within { IfOk result (λ _. number ≤ records) }
 {
-    let mut gathered = Gathered::new(alloc);
-    'uses: for _ in 0..room + 1 {
-        let t = match token(s) {
-            Ok(t) => t,
-            Err(stop) => return Err(stop),
-        };
-        if star(t.bytes()) {
-            return Ok(gathered);
-        }
-        match take_use(s, count, parent, seen, &mut gathered, t.bytes()) {
-            Ok(()) => {}
-            Err(stop) => return Err(stop),
+    let records = u64::from(records);
+    if number < 1 || number > records {
+        return Err(fault_at(ReadCode::IndexOutOfRange, number, records, t));
+    }
+    match seen.get((records - number) as usize) {
+        Some(child) => Ok(*child),
+        None => {
+            let own = records - seen.len() as u64;
+            Err(fault_at(ReadCode::NotAbove, number, own, t))
         }
     }
-    Err(Stop::NotBuilt)
+}
+
+/// The place of a kind in their order, from 1.
+fn rank(kind: Kind) -> u64
+    ensures { result ≡ rank_of kind }
+{
+    kind as u64 + 1
+}
+
+/// A child of a record of the kind `parent`, where so many uses stand before it: its kind is in order, and it is neither too deep nor
+/// one use too many.
+fn fit(bounds: Bounds, parent: Kind, uses: u32, t: &Token, child: Seen) -> Result<Seen, ReadFault>
+    requires { uses ≤ most_uses }
+    ensures says { Says (fitting (bounds_of bounds) parent uses t.now child) result }
+    ensures shallow { IfOk result (λ c. c.depth < 512) }
+    ensures room { IfOk result (λ _. uses < most_uses) }
+{
+    if !below(child.kind(), parent) {
+        return Err(fault_at(ReadCode::KindOrder, rank(child.kind()), rank(parent), t));
+    }
+    if child.depth() >= 512 {
+        let depth = u64::from(child.depth()) + 1;
+        return Err(fault_at(ReadCode::TooDeep, depth, 512, t));
+    }
+    if uses >= MOST_USES {
+        let count = u64::from(uses) + 1;
+        return Err(fault_at(ReadCode::TooMany, count, u64::from(MOST_USES), t));
+    }
+    Ok(child)
+}
+
+/// A sign with the number of a record above is due.
+fn named_due(
+    bounds: Bounds,
+    seen: &[Seen],
+    parent: Kind,
+    uses: u32,
+    t: &Token,
+) -> Result<Named, ReadFault>
+    requires own { length seen.now < bounds.records }
+    requires uses { uses ≤ most_uses }
+    ensures says { Says (named_at (bounds_of bounds) seen.now parent uses t.now (use_of t.now.text)) result }
+    ensures shallow { IfOk result (λ u. u.child.depth < 512) }
+    ensures room { IfOk result (λ _. uses < most_uses) }
+{
+    let (turn, number) = match signed_number(t.bytes()) {
+        Some(signed) => signed,
+        None => return Err(fault_at(ReadCode::UseExpected, 0, 0, t)),
+    };
+    let child = above(bounds.records, seen, number, t)?;
+    let child = fit(bounds, parent, uses, t, child)?;
+    Ok(Named {
+        turn,
+        number: number as u32,
+        child,
+    })
+}
+
+/// What is due next.
+#[derive(Clone, Copy)]
+pub(crate) enum Stage {
+    /// A sign with a number, or `*`.
+    Sign,
+    /// The number of a location.
+    Location(Named),
+    Whole,
+}
+
+/// Takes the uses of a record, and the `*` after the last.
+#[derive(Drop)]
+pub(crate) struct UsesReader {
+    stage: Stage,
+    gathered: Gathered,
+}
+
+impl UsesReader {
+    /// No token was taken yet.
+    pub(crate) fn new(alloc: Global) -> UsesReader
+        ensures left { (b : ReadBounds) (s : ReadSoFar) (parent : Kind) (ts : List Token) → uses_left b s parent result ts ≡ uses_from b s parent none_gathered ts }
+        ensures waits { (before : ℕ) → before ≤ most_uses → IsWaitingUses before result }
+        ensures open { (b : ReadBounds) (s : ReadSoFar) (parent : Kind) → uses_left b s parent result [] ≡ Err more }
+    {
+        UsesReader {
+            stage: Stage::Sign,
+            gathered: Gathered::new(alloc),
+        }
+    }
+
+    /// Takes a token of a record of the kind `parent`, after those that were read.
+    pub(crate) fn take(
+        &mut self,
+        t: &Token,
+        bounds: Bounds,
+        so_far: &SoFar,
+        parent: Kind,
+    ) -> Result<Progress, ReadStop>
+        requires own { length so_far.now.seen.items < bounds.records }
+        requires waits { IsWaitingUses so_far.now.uses self.old }
+        ensures { Takes (uses_left (bounds_of bounds) (so_far_of so_far.now) parent self.old) t.now (uses_left (bounds_of bounds) (so_far_of so_far.now) parent self.new) (IsWaitingUses so_far.now.uses self.new) (AreDoneUses so_far.now.uses self.new) result }
+    {
+        match self.stage {
+            Stage::Sign => self.take_sign(t, bounds, so_far, parent),
+            Stage::Location(named) => self.take_location(t, bounds, so_far, parent, named),
+            Stage::Whole => unreachable!(),
+        }
+    }
+
+    fn take_sign(
+        &mut self,
+        t: &Token,
+        bounds: Bounds,
+        so_far: &SoFar,
+        parent: Kind,
+    ) -> Result<Progress, ReadStop>
+        requires own { length so_far.now.seen.items < bounds.records }
+        requires few { AreFew so_far.now.uses self.old.gathered }
+        ensures { Takes (at_uses stages.Sign (bounds_of bounds) (so_far_of so_far.now) parent self.old.gathered) t.now (uses_left (bounds_of bounds) (so_far_of so_far.now) parent self.new) (IsWaitingUses so_far.now.uses self.new) (AreDoneUses so_far.now.uses self.new) result }
+    {
+        if star(t.bytes()) {
+            self.stage = Stage::Whole;
+            return Ok(Progress::Whole);
+        }
+        let uses = so_far.uses + self.gathered.uses.len() as u32;
+        match named_due(bounds, &so_far.seen, parent, uses, t) {
+            Err(f) => Err(ReadStop::Fault(f)),
+            Ok(named) => {
+                self.stage = Stage::Location(named);
+                Ok(Progress::More)
+            }
+        }
+    }
+
+    fn take_location(
+        &mut self,
+        t: &Token,
+        bounds: Bounds,
+        so_far: &SoFar,
+        parent: Kind,
+        named: Named,
+    ) -> Result<Progress, ReadStop>
+        requires { HasRoom so_far.now.uses self.old.gathered named }
+        ensures { Takes (at_uses (stages.Location named) (bounds_of bounds) (so_far_of so_far.now) parent self.old.gathered) t.now (uses_left (bounds_of bounds) (so_far_of so_far.now) parent self.new) (IsWaitingUses so_far.now.uses self.new) (AreDoneUses so_far.now.uses self.new) result }
+    {
+        let location = match ranged_due(0, u64::from(bounds.locations), t) {
+            Err(f) => return Err(ReadStop::Fault(f)),
+            Ok(location) => location as u32,
+        };
+        match self.gathered.push(named, location) {
+            Err(_) => Err(ReadStop::NoMemory),
+            Ok(()) => {
+                self.stage = Stage::Sign;
+                Ok(Progress::More)
+            }
+        }
+    }
+
+    /// The uses.
+    pub(crate) fn done(self) -> Gathered
+        ensures { result ≡ self.gathered }
+    {
+        self.gathered
+    }
 }

@@ -1,98 +1,98 @@
 //! A whole file.
-ghost use Rattle.brep_file.specs.Readers.{FileGiven, GivesVersion, IsReading, is_nothing, texts_left};
-ghost use Rattle.brep_file.specs.RecordReading.{file_at, file_limits, file_of, is_end};
-ghost use Rattle.std.specs.Prelude.{◌≡◌, IfErr, IfOk, false, true};
+ghost use Rattle.brep_file.specs.FileReading.{after_zero, read_text, too_long};
+ghost use Rattle.brep_file.specs.Giving.{EndGiven, FileGiven, IsReading, VersionGiven, closing, front};
+ghost use Rattle.brep_file.specs.Sound.{file_limits};
+ghost use Rattle.brep_tokens.specs.Scan.{words_left};
+ghost use Rattle.std.specs.Prelude.{◌≡◌, IfOk, false, true};
 
 use crate::file::File;
-use crate::reader::records::records;
-use crate::reader::tables::{record_count, root, tables};
-use crate::stop::Stop;
-use brep_tokens::{Next, Scanner};
-use std::alloc::Global;
-
-/// How many records a file may have.
-const MOST_RECORDS: u32 = 2_097_152;
+use crate::reader::sections::{begun_file, with_locations};
+use brep_tokens::{Next, ReadCode, ReadFault, ReadStop, Scanner};
+use entry_readers::fault_at;
+use std::alloc::{AllocError, Global};
 
 /// A scanner that was fed these bytes and told their end.
-fn scanner_of(alloc: Global, bytes: Vec<u8>) -> Result<Scanner, Stop>
-    ensures ok { IfOk result (λ s. s ≡ record { fed = bytes.items; at = 0; headed = false; ended = true }) }
-    ensures err { IfErr result (λ e. e ≡ Stop.NoMemory) }
+fn scanner_of(alloc: Global, bytes: Vec<u8>) -> Result<Scanner, AllocError>
+    ensures { IfOk result (λ s. s ≡ record { fed = bytes.items; at = 0; headed = false; ended = true }) }
 {
     let mut s = Scanner::new(alloc);
-    match s.feed(&bytes) {
-        Ok(()) => {}
-        Err(_) => return Err(Stop::NoMemory),
-    }
+    s.feed(&bytes)?;
     s.end();
     Ok(s)
 }
 
 /// The version of the file.
-fn version(s: &mut Scanner) -> Result<u8, Stop>
+fn version(s: &mut Scanner) -> Result<u8, ReadFault>
     requires ended { s.old.ended ≡ true }
     requires start { s.old.headed ≡ false }
-    ensures { GivesVersion s.old s.new result }
+    ensures { VersionGiven s.old s.new result }
 {
     match s.next() {
         Ok(Next::Version(version)) => Ok(version),
-        _ => Err(Stop::NotBuilt),
+        Err(f) => Err(f),
+        Ok(Next::Token(_) | Next::NeedMore(_) | Next::End(_)) => unreachable!(),
     }
 }
 
-/// Whether no token is left.
-fn no_more(s: &mut Scanner) -> bool
+/// Nothing is left after the closing `0`.
+fn end(s: &mut Scanner) -> Result<(), ReadFault>
     requires { IsReading s.old }
-    ensures { result ≡ is_nothing (texts_left s.old) }
+    ensures { EndGiven (λ f. after_zero f (too_long (words_left s.old)) (front s.old)) result }
 {
     match s.next() {
-        Ok(Next::End(_)) => true,
-        _ => false,
+        Ok(Next::End(_)) => Ok(()),
+        Ok(Next::Token(t)) => Err(fault_at(ReadCode::Tail, 0, 0, &t)),
+        Err(f) => Err(f),
+        Ok(Next::Version(_) | Next::NeedMore(_)) => unreachable!(),
     }
 }
 
-/// Whether nothing is left, or a closing `0`.
-fn at_end(s: &mut Scanner) -> bool
+/// Nothing is left after the root use, or a closing `0`.
+fn closing_zero(s: &mut Scanner) -> Result<(), ReadFault>
     requires { IsReading s.old }
-    ensures { result ≡ is_end (texts_left s.old) }
+    ensures { EndGiven (closing s.old) result }
 {
     match s.next() {
-        Ok(Next::End(_)) => true,
-        Ok(Next::Token(t)) => t.bytes() == b"0".as_slice() && no_more(s),
-        _ => false,
+        Ok(Next::End(_)) => Ok(()),
+        Ok(Next::Token(t)) => {
+            if t.bytes() == b"0".as_slice() {
+                end(s)
+            } else {
+                Err(fault_at(ReadCode::Tail, 0, 0, &t))
+            }
+        }
+        Err(f) => Err(f),
+        Ok(Next::Version(_) | Next::NeedMore(_)) => unreachable!(),
     }
 }
 
-/// What stands after the version line.
-#[tactic(auto, unfolding(crate::specs::RecordReading::file_at))]
-fn tables_and_records(alloc: Global, s: &mut Scanner) -> Result<File, Stop>
-    requires { IsReading s.old }
-    ensures { FileGiven result (file_at file_limits (texts_left s.old)) }
+/// The file that the bytes spell, or the fault of the first token that isn't accepted. The bytes are let go as soon as the scanner
+/// has them.
+pub fn read_file(alloc: Global, bytes: Vec<u8>) -> Result<File, ReadStop>
+    ensures { FileGiven result (read_text file_limits bytes.items) }
 {
-    tables(s)?;
-    let count = record_count(s, MOST_RECORDS)?;
-    let so_far = records(alloc, s, count)?;
-    let root = root(s, count)?;
-    if at_end(s) {
-        Ok(File {
-            version: 1,
-            records: so_far.records,
-            root,
-        })
-    } else {
-        Err(Stop::NotBuilt)
+    let mut s = match scanner_of(alloc, bytes) {
+        Ok(s) => s,
+        Err(_) => return Err(ReadStop::NoMemory),
+    };
+    let version = match version(&mut s) {
+        Ok(version) => version,
+        Err(f) => return Err(ReadStop::Fault(f)),
+    };
+    if version != 1 {
+        return Err(ReadStop::Fault(ReadFault {
+            code: ReadCode::VersionNotRead,
+            offset: 0,
+            value: 0,
+            limit: 0,
+        }));
     }
-}
-
-/// The file that the bytes spell. They are let go as soon as the scanner has them.
-#[tactic(auto, unfolding(crate::specs::RecordReading::file_of))]
-pub fn read_file(alloc: Global, bytes: Vec<u8>) -> Result<File, Stop>
-    ensures { FileGiven result (file_of bytes.items) }
-{
-    let mut s = scanner_of(alloc, bytes)?;
-    let version = version(&mut s)?;
-    if version == 1 {
-        tables_and_records(alloc, &mut s)
-    } else {
-        Err(Stop::NotBuilt)
+    let file = match with_locations(alloc, &mut s, begun_file(alloc, version)) {
+        Ok(file) => file,
+        Err(e) => return Err(e),
+    };
+    match closing_zero(&mut s) {
+        Ok(()) => Ok(file),
+        Err(f) => Err(ReadStop::Fault(f)),
     }
 }

@@ -54,6 +54,13 @@ pub(crate) fn without_marked(
     Ok(Remaining {
         file: File {
             version: file.version,
+            locations: file.locations,
+            curve2s: file.curve2s,
+            curves: file.curves,
+            polygons: file.polygons,
+            polygons_on: file.polygons_on,
+            surfaces: file.surfaces,
+            meshes: file.meshes,
             records: Records::from_vec(records),
             root: file.root,
         },

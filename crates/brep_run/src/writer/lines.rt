@@ -1,14 +1,15 @@
 //! The lines of a record, appended to a text.
-ghost use Rattle.brep_file.specs.declared.file.FileUse.{FileUse};
-ghost use Rattle.brep_run.specs.Completion.{ArePlaced, new_number, renumbered, renumbered_use};
-ghost use Rattle.brep_run.specs.Layout.{payload_lines, record_lines};
+ghost use Rattle.brep_file.specs.declared.uses.FileUse.{FileUse};
+ghost use Rattle.brep_run.specs.Completion.{ArePlaced, location_number, new_number, renumbered, renumbered_use};
+ghost use Rattle.brep_run.specs.Layout.{heading, payload_lines, record_lines};
 ghost use Rattle.brep_file.specs.Sound.{IsShaped};
 ghost use Rattle.brep_file.specs.Spelling.{flag_code, spell_flags, spell_use};
-ghost use Rattle.brep_tokens.specs.Written.{lines_text};
+ghost use Rattle.brep_tokens.specs.Written.{line_text, lines_text};
 ghost use Rattle.expansion_laws.specs.Expansion.{IsNumberOf};
 ghost use Rattle.std.specs.Fmt.{decimal};
 ghost use Rattle.std.specs.List.{flat_map, join_with_byte};
-ghost use Rattle.std.specs.Prelude.{◌≡◌, ◌∷◌, ◌++◌, ◌<◌, All, OnOk, [], length, slice_index_or};
+ghost use Rattle.std.specs.Prelude.{◌≡◌, ◌∷◌, ◌++◌, ◌<◌, ◌≤◌, All, OnOk, [], length, slice_index_or};
+ghost use Rattle.written_locations.specs.Met.{HasMet, IsNumbering};
 
 use super::order::Order;
 use brep_file::{FileUse, Flags, Payload, Record};
@@ -16,6 +17,7 @@ use brep_tokens::Decimals;
 use itoa::Buffer;
 use orientation::{Turn, kind_name, sign};
 use std::alloc::AllocError;
+use written_locations::WrittenLocations;
 
 /// A number in decimal digits.
 pub(crate) fn push_number(text: &mut Vec<u8>, n: usize) -> Result<(), AllocError>
@@ -25,35 +27,57 @@ pub(crate) fn push_number(text: &mut Vec<u8>, n: usize) -> Result<(), AllocError
     text.extend_from_slice(buffer.format(n).as_bytes())
 }
 
-/// A use of the record with a number, without a location, and a byte after it.
+/// A section's word and the count of its entries on a line.
+pub(crate) fn push_heading(text: &mut Vec<u8>, word: &[u8], count: usize) -> Result<(), AllocError>
+    ensures { OnOk result (text.new.items ≡ text.old.items ++ line_text (heading word.now count)) }
+{
+    text.extend_from_slice(word)?;
+    text.push(b' ')?;
+    push_number(text, count)?;
+    text.push(b'\n')?;
+    Ok(())
+}
+
+/// A use of the record with a number at a location with a number, and a byte after it.
 pub(crate) fn push_use(
     text: &mut Vec<u8>,
     turn: Turn,
     number: usize,
+    location: usize,
     end: u8,
 ) -> Result<(), AllocError>
-    ensures { OnOk result (let used : FileUse = record { turn = turn; number = number; location = 0 } in
+    ensures { OnOk result (let used : FileUse = record { turn = turn; number = number; location = location } in
         text.new.items ≡ text.old.items ++ join_with_byte 32 (spell_use used) ++ end ∷ []) }
 {
     text.push(sign(turn))?;
     push_number(text, number)?;
-    text.extend_from_slice(b" 0")?;
+    text.push(b' ')?;
+    push_number(text, location)?;
     text.push(end)?;
     Ok(())
 }
 
 /// The uses of a record, each with a space after it.
-fn push_uses(text: &mut Vec<u8>, uses: &[FileUse], order: &Order) -> Result<(), AllocError>
+fn push_uses(
+    text: &mut Vec<u8>,
+    uses: &[FileUse],
+    order: &Order,
+    locations: &WrittenLocations<'_>,
+) -> Result<(), AllocError>
     requires placed { ArePlaced (length order.now.places.items) order.now.numbers.items order.now.places.items }
     requires numbers { All (λ u. IsNumberOf (length order.now.places.items) u.number) uses.now }
+    requires numbering { IsNumbering locations.now }
+    requires within { All (λ u. u.location ≤ length locations.now.section.now) uses.now }
+    requires met { All (λ u. HasMet locations.now u.location) uses.now }
     ensures { OnOk result (text.new.items ≡ text.old.items
-        ++ flat_map (λ u. join_with_byte 32 (spell_use (renumbered_use order.now.numbers.items order.now.places.items u)) ++ 32 ∷ []) uses.now) }
+        ++ flat_map (λ u. join_with_byte 32 (spell_use (renumbered_use order.now.numbers.items order.now.places.items (location_number locations.now) u)) ++ 32 ∷ []) uses.now) }
 {
     for used in uses {
         push_use(
             text,
             used.turn,
             order.new_number(used.number as usize),
+            locations.number(used.location),
             b' ',
         )?;
     }
@@ -116,17 +140,21 @@ fn flag_digits(flags: &Flags) -> [u8; 7]
     ]
 }
 
-/// The lines of a record, its uses by their new numbers.
+/// The lines of a record, its uses by the new numbers of records and of locations.
 pub(crate) fn push_record(
     text: &mut Vec<u8>,
     source: &Record,
     order: &Order,
+    locations: &WrittenLocations<'_>,
 ) -> Result<(), AllocError>
     requires shaped { IsShaped source.now.head.kind source.now.head.payload }
     requires placed { ArePlaced (length order.now.places.items) order.now.numbers.items order.now.places.items }
     requires numbers { All (λ u. IsNumberOf (length order.now.places.items) u.number) source.now.uses }
+    requires numbering { IsNumbering locations.now }
+    requires within { All (λ u. u.location ≤ length locations.now.section.now) source.now.uses }
+    requires met { All (λ u. HasMet locations.now u.location) source.now.uses }
     ensures { OnOk result (text.new.items ≡ text.old.items
-        ++ lines_text (record_lines (renumbered order.now.numbers.items order.now.places.items source.now))) }
+        ++ lines_text (record_lines (renumbered order.now.numbers.items order.now.places.items (location_number locations.now) source.now))) }
 {
     text.extend_from_slice(kind_name(source.head.kind))?;
     text.push(b'\n')?;
@@ -134,7 +162,7 @@ pub(crate) fn push_record(
     text.push(b'\n')?;
     text.extend_from_slice(&flag_digits(&source.head.flags))?;
     text.push(b'\n')?;
-    push_uses(text, source.uses.as_slice(), order)?;
+    push_uses(text, source.uses.as_slice(), order, locations)?;
     text.extend_from_slice(b"*\n")?;
     Ok(())
 }

@@ -5,7 +5,7 @@ use Rattle.brep_run.proofs.removal.root_goes.Goals as goal
 
 pub returns : goal.returns
 returns c = record {
-  text_is = c.in_ok-made_text.ensures c.args.file.now c.requires.version;
+  text_is = c.in_ok-made_text.ensures;
   origins_are = search rules;
   pairs_are = c.new-2.ensures;
   places = c.in_ok-after.after.places.items;

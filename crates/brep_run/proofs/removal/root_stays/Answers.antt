@@ -1,6 +1,6 @@
-use Rattle.std.proofs.Common.{length, List, Bool, subst, ap, ◌∙◌}
+use Rattle.std.proofs.Common.{length, List, Bool, subst, ap, sym, ◌∙◌}
 use Rattle.std.specs.Prelude.{map}
-use Rattle.brep_file.specs.PlainRecords.{plain_records, plain_use}
+use Rattle.brep_file.specs.PlainRecords.{plain_records, plain_root}
 use Rattle.brep_run.specs.Completion.{ArePlaced}
 use Rattle.brep_run.specs.Remaining.{kept_records, pair_of, passing, is_modified}
 use Rattle.brep_file.specs.Marks.{mark_of}
@@ -13,23 +13,23 @@ pub order_of-requires : goal.order_of-requires
 order_of-requires c =
     let f = c.args.file in
     let removed = mark_of c.args.marks.now in
-    after-tells f removed c.requires.tell (c.records_are_trees.ensures (kept_records f removed) (plain_use f.root) (kept-file f removed c.requires.tell.sound))
+    after-tells f removed c.requires.tell (c.records_are_trees.ensures (kept_records f removed) (plain_root f) (kept-file f removed c.requires.tell.sound))
     c.in_ok-remaining.remaining.file c.in_ok-remaining.ensures.file
-    (λ h sound. c.records_are_trees.ensures (plain_records h) (plain_use h.root) (file-sound h sound))
+    (λ h sound. c.records_are_trees.ensures (plain_records h) (plain_root h) (file-sound h sound))
 
 pub text_in_order-requires-clause-tell : goal.text_in_order-requires-clause-tell
 text_in_order-requires-clause-tell c =
     let f = c.args.file in
     let removed = mark_of c.args.marks.now in
-    after-tells f removed c.requires.tell (c.records_are_trees.ensures (kept_records f removed) (plain_use f.root) (kept-file f removed c.requires.tell.sound))
+    after-tells f removed c.requires.tell (c.records_are_trees.ensures (kept_records f removed) (plain_root f) (kept-file f removed c.requires.tell.sound))
     c.in_ok-remaining.remaining.file c.in_ok-remaining.ensures.file
-    (λ h sound. c.records_are_trees.ensures (plain_records h) (plain_use h.root) (file-sound h sound))
+    (λ h sound. c.records_are_trees.ensures (plain_records h) (plain_root h) (file-sound h sound))
 
 pub returns : goal.returns
 returns c =
     let f = c.args.file in
     let removed = mark_of c.args.marks.now in
-    let walk = c.records_are_trees.ensures (kept_records f removed) (plain_use f.root) (kept-file f removed c.requires.tell.sound) in
+    let walk = c.records_are_trees.ensures (kept_records f removed) (plain_root f) (kept-file f removed c.requires.tell.sound) in
     let g = c.in_ok-remaining.remaining.file in
     let is_after = c.in_ok-remaining.ensures.file in
     let numbers = c.in_ok-after.after.numbers.items in

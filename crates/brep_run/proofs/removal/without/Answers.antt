@@ -1,7 +1,7 @@
-use Rattle.std.proofs.Common.{List, Bool, subst, ap, sym, ◌∙◌, ◌≡◌, true, false}
+use Rattle.std.proofs.Common.{length, List, ℕ, Bool, subst, ap, sym, ◌∙◌, ◌≡◌, true, false}
 use Rattle.expansion_laws.specs.Trees.{Use}
 use Rattle.brep_run.specs.declared.removal.Removal.{Removal}
-use Rattle.brep_file.specs.PlainRecords.{plain_records, plain_use}
+use Rattle.brep_file.specs.PlainRecords.{plain_records, plain_root}
 use Rattle.brep_run.specs.Completion.{NumbersTell}
 use Rattle.brep_run.specs.Remaining.{AreMarks, kept_records, RootGoes, RootStays}
 use Rattle.brep_file.specs.Marks.{mark_of}
@@ -15,14 +15,14 @@ use Rattle.brep_run.proofs.removal.without.Goals as goal
 pub order_of-requires : goal.order_of-requires
 order_of-requires c = record {
   sound = c.requires.sound;
-  trees = c.records_are_trees.ensures (plain_records c.args.file) (plain_use c.args.file.root) (file-sound c.args.file c.requires.sound);
+  trees = c.records_are_trees.ensures (plain_records c.args.file) (plain_root c.args.file) (file-sound c.args.file c.requires.sound);
   test = c.equal_trees_tell.ensures;
 }
 
 pub root_stays-requires-clause-tell : goal.root_stays-requires-clause-tell
 root_stays-requires-clause-tell c = record {
   sound = c.requires.sound;
-  trees = c.records_are_trees.ensures (plain_records c.args.file) (plain_use c.args.file.root) (file-sound c.args.file c.requires.sound);
+  trees = c.records_are_trees.ensures (plain_records c.args.file) (plain_root c.args.file) (file-sound c.args.file c.requires.sound);
   test = c.equal_trees_tell.ensures;
 }
 
@@ -33,14 +33,14 @@ returns-then-is_marked c =
     let removed = mark_of c.in_ok-marks.marks.items in
     let before = c.in_ok-before.before in
     let marks = subst (λ n. AreMarks n numbers c.in_ok-marks.marks.items) c.len.ensures c.in_ok-marks.ensures in
-    let walk = c.records_are_trees.ensures (kept_records f removed) (plain_use f.root) (kept-file f removed c.requires.sound) in
+    let walk = c.records_are_trees.ensures (kept_records f removed) (plain_root f) (kept-file f removed c.requires.sound) in
     let tell : NumbersTell f = record {
       sound = c.requires.sound;
-      trees = c.records_are_trees.ensures (plain_records f) (plain_use f.root) (file-sound f c.requires.sound);
+      trees = c.records_are_trees.ensures (plain_records f) (plain_root f) (file-sound f c.requires.sound);
       test = c.equal_trees_tell.ensures;
     } in
     let laws : Laws = record {
-      trees = λ g sound. c.records_are_trees.ensures (plain_records g) (plain_use g.root) (file-sound g sound);
+      trees = λ g sound. c.records_are_trees.ensures (plain_records g) (plain_root g) (file-sound g sound);
       written = c.roots_are_written.ensures;
       determined = λ h ns. c.results_are_determined.ensures (removal_step h ns);
       copies = c.texts_stand_for_roots.ensures.copies;
@@ -59,14 +59,14 @@ returns-else-is_marked c =
     let removed = mark_of c.in_ok-marks.marks.items in
     let before = c.in_ok-before.before in
     let marks = subst (λ n. AreMarks n numbers c.in_ok-marks.marks.items) c.len.ensures c.in_ok-marks.ensures in
-    let walk = c.records_are_trees.ensures (kept_records f removed) (plain_use f.root) (kept-file f removed c.requires.sound) in
+    let walk = c.records_are_trees.ensures (kept_records f removed) (plain_root f) (kept-file f removed c.requires.sound) in
     let tell : NumbersTell f = record {
       sound = c.requires.sound;
-      trees = c.records_are_trees.ensures (plain_records f) (plain_use f.root) (file-sound f c.requires.sound);
+      trees = c.records_are_trees.ensures (plain_records f) (plain_root f) (file-sound f c.requires.sound);
       test = c.equal_trees_tell.ensures;
     } in
     let laws : Laws = record {
-      trees = λ g sound. c.records_are_trees.ensures (plain_records g) (plain_use g.root) (file-sound g sound);
+      trees = λ g sound. c.records_are_trees.ensures (plain_records g) (plain_root g) (file-sound g sound);
       written = c.roots_are_written.ensures;
       determined = λ h ns. c.results_are_determined.ensures (removal_step h ns);
       copies = c.texts_stand_for_roots.ensures.copies;

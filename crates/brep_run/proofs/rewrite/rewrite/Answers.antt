@@ -7,15 +7,15 @@ use Rattle.brep_run.specs.Script.{StopGiven, script_given}
 use Rattle.brep_run.specs.Rewrite.{AreTextsOf}
 use Rattle.history_text.specs.HistoryText.{text_of}
 use Rattle.brep_run.proofs.Reading.{held-before, quiet-both, closed-both, done-after, stopped-after}
-use Rattle.brep_file.proofs.ReadFiles.{reads-of, none-of}
+use Rattle.brep_run.proofs.ReadFiles.{reads-of, none-of}
 use Rattle.brep_run.proofs.ScriptLemmas.{stop-unbuilt, stop-refused, refused-as}
 use Rattle.brep_run.proofs.rewrite.rewrite.Goals as goal
 
-pub returns-in-Err-NotBuilt-clause-not_built : goal.returns-in-Err-NotBuilt-clause-not_built
-returns-in-Err-NotBuilt-clause-not_built g c = λ told. inl (
+pub returns-in-Err-Fault-clause-not_built : goal.returns-in-Err-Fault-clause-not_built
+returns-in-Err-Fault-clause-not_built g c = λ told. inl (
   c.in-Ok.bytes.items,
   record { held = c.in-Ok.ensures.whole.1 told; few = c.in-Ok.ensures.whole.0 },
-  none-of c.reading_is_exact.ensures {T = File} c.in-Ok.bytes.items c.in-Err-NotBuilt.field-0 c.in-Err-NotBuilt.ensures (ap Err c.in-Err-NotBuilt.field-0-is),
+  none-of c.reading_is_exact.ensures c.in-Ok.bytes.items c.in-Err-Fault.field-0 c.in-Err-Fault.ensures _ c.in-Err-Fault.field-0-is,
 )
 
 pub returns-in-Err-TooLong-read_all-clause-limit : goal.returns-in-Err-TooLong-read_all-clause-limit
@@ -60,8 +60,8 @@ overflow_cast-shapes g c =
     let size = c.len-shapes.ensures in
     omega (arith, few, size)
 
-pub returns-in-Err-NotBuilt-removed_numbers-clause-not_built : goal.returns-in-Err-NotBuilt-removed_numbers-clause-not_built
-returns-in-Err-NotBuilt-removed_numbers-clause-not_built g c = λ told. (
+pub returns-in-Err-NotBuilt-clause-not_built : goal.returns-in-Err-NotBuilt-clause-not_built
+returns-in-Err-NotBuilt-clause-not_built g c = λ told. (
     let counted = c.line_count.ensures.counted ∙ ap script_line_count c.deref.ensures.value in
     let few = c.if-line_count-gt-SCRIPT_LINES.false in
     inr (
@@ -77,9 +77,10 @@ returns-in-Err-NotBuilt-removed_numbers-clause-not_built g c = λ told. (
         few_bytes = c.in-Ok-read_all.ensures.whole.0;
         few_lines = omega (arith, counted, few);
       },
-      stop-unbuilt (length c.in-Ok-read_file.file.records) 0 c.in-Err-NotBuilt-removed_numbers.field-0 _ c.in-Err-NotBuilt-removed_numbers.field-0-is
-          (subst (λ s. StopGiven (length c.in-Ok-read_file.file.records) 0 c.in-Err-NotBuilt-removed_numbers.field-0 (script_given (length c.in-Ok-read_file.file.records) 0 s)) c.deref-2.ensures.value
-          (subst (λ n. StopGiven n 0 c.in-Err-NotBuilt-removed_numbers.field-0 (script_given n 0 c.deref-2.result.now)) c.len-shapes.ensures c.in-Err-NotBuilt-removed_numbers.ensures.err)),
+      stop-unbuilt (length c.in-Ok-read_file.file.records) (length c.in-Ok-read_file.file.locations) c.in-Err-NotBuilt.field-0 _ c.in-Err-NotBuilt.field-0-is
+          (subst (λ s. StopGiven (length c.in-Ok-read_file.file.records) (length c.in-Ok-read_file.file.locations) c.in-Err-NotBuilt.field-0 (script_given (length c.in-Ok-read_file.file.records) (length c.in-Ok-read_file.file.locations) s)) c.deref-2.ensures.value
+          (subst (λ n. StopGiven n (length c.in-Ok-read_file.file.locations) c.in-Err-NotBuilt.field-0 (script_given n (length c.in-Ok-read_file.file.locations) c.deref-2.result.now)) c.len-shapes.ensures
+          (subst (λ m. StopGiven c.len-shapes.result m c.in-Err-NotBuilt.field-0 (script_given c.len-shapes.result m c.deref-2.result.now)) c.len-locations.ensures.len c.in-Err-NotBuilt.ensures.err))),
     ))
 
 pub returns-in-Err-Refused-clause-script : goal.returns-in-Err-Refused-clause-script
@@ -98,9 +99,10 @@ returns-in-Err-Refused-clause-script g c = λ told. (
         few_bytes = c.in-Ok-read_all.ensures.whole.0;
         few_lines = omega (arith, counted, few);
       },
-      refused-as _ _ _ _ _ c.in-Err-Refused.fault-is (stop-refused (length c.in-Ok-read_file.file.records) 0 c.in-Err-Refused.field-0 _ _ c.in-Err-Refused.field-0-is
-          (subst (λ s. StopGiven (length c.in-Ok-read_file.file.records) 0 c.in-Err-Refused.field-0 (script_given (length c.in-Ok-read_file.file.records) 0 s)) c.deref-2.ensures.value
-          (subst (λ n. StopGiven n 0 c.in-Err-Refused.field-0 (script_given n 0 c.deref-2.result.now)) c.len-shapes.ensures c.in-Err-Refused.ensures.err))),
+      refused-as _ _ _ _ _ c.in-Err-Refused.fault-is (stop-refused (length c.in-Ok-read_file.file.records) (length c.in-Ok-read_file.file.locations) c.in-Err-Refused.field-0 _ _ c.in-Err-Refused.field-0-is
+          (subst (λ s. StopGiven (length c.in-Ok-read_file.file.records) (length c.in-Ok-read_file.file.locations) c.in-Err-Refused.field-0 (script_given (length c.in-Ok-read_file.file.records) (length c.in-Ok-read_file.file.locations) s)) c.deref-2.ensures.value
+          (subst (λ n. StopGiven n (length c.in-Ok-read_file.file.locations) c.in-Err-Refused.field-0 (script_given n (length c.in-Ok-read_file.file.locations) c.deref-2.result.now)) c.len-shapes.ensures
+          (subst (λ m. StopGiven c.len-shapes.result m c.in-Err-Refused.field-0 (script_given c.len-shapes.result m c.deref-2.result.now)) c.len-locations.ensures.len c.in-Err-Refused.ensures.err)))),
     ))
 
 pub rewriting_of-requires-clause-sound : goal.rewriting_of-requires-clause-sound
@@ -135,8 +137,9 @@ returns-in-Ok-rewriting_of-clause-done g c =
           few_bytes = c.in-Ok-read_all.ensures.whole.0;
           few_lines = omega (arith, counted, few);
         };
-        given = ap (λ s. script_given (length c.in-Ok-read_file.file.records) 0 s) (sym c.deref-2.ensures.value)
-            ∙ ap (λ n. script_given n 0 c.deref-2.result.now) (sym c.len-shapes.ensures) ∙ c.in-Ok-removed_numbers.ensures.ok;
+        given = ap (λ s. script_given (length c.in-Ok-read_file.file.records) (length c.in-Ok-read_file.file.locations) s) (sym c.deref-2.ensures.value)
+            ∙ ap (λ n. script_given n (length c.in-Ok-read_file.file.locations) c.deref-2.result.now) (sym c.len-shapes.ensures)
+            ∙ ap (λ m. script_given c.len-shapes.result m c.deref-2.result.now) (sym c.len-locations.ensures.len) ∙ c.in-Ok-removed_numbers.ensures.ok;
       },
       subst (λ x. AreTextsOf c.in-Ok-read_file.file c.in-Ok-removed_numbers.numbers.items made.0 x (text_of c.in-Ok-rewriting_of.made.history)) (sym c.deref-in-Ok-rewriting_of.ensures.value)
           (subst (λ ns. AreTextsOf c.in-Ok-read_file.file ns made.0 c.in-Ok-rewriting_of.made.text.items (text_of c.in-Ok-rewriting_of.made.history)) c.deref-3.ensures.value made.1),
@@ -167,8 +170,9 @@ returns-in-Ok-rewriting_of-clause-stopped g c =
           few_bytes = c.in-Ok-read_all.ensures.whole.0;
           few_lines = omega (arith, counted, few);
         };
-        given = ap (λ s. script_given (length c.in-Ok-read_file.file.records) 0 s) (sym c.deref-2.ensures.value)
-            ∙ ap (λ n. script_given n 0 c.deref-2.result.now) (sym c.len-shapes.ensures) ∙ c.in-Ok-removed_numbers.ensures.ok;
+        given = ap (λ s. script_given (length c.in-Ok-read_file.file.records) (length c.in-Ok-read_file.file.locations) s) (sym c.deref-2.ensures.value)
+            ∙ ap (λ n. script_given n (length c.in-Ok-read_file.file.locations) c.deref-2.result.now) (sym c.len-shapes.ensures)
+            ∙ ap (λ m. script_given c.len-shapes.result m c.deref-2.result.now) (sym c.len-locations.ensures.len) ∙ c.in-Ok-removed_numbers.ensures.ok;
       },
       subst (λ x. AreTextsOf c.in-Ok-read_file.file c.in-Ok-removed_numbers.numbers.items made.0 x (text_of c.in-Ok-rewriting_of.made.history)) (sym c.deref-in-Ok-rewriting_of.ensures.value)
           (subst (λ ns. AreTextsOf c.in-Ok-read_file.file ns made.0 c.in-Ok-rewriting_of.made.text.items (text_of c.in-Ok-rewriting_of.made.history)) c.deref-3.ensures.value made.1),

@@ -1,6 +1,6 @@
 use Rattle.std.proofs.Common.{sym, ap, subst, ◌∙◌}
 use Rattle.brep_run.specs.Words.{asked_of}
-use Rattle.brep_file.specs.PlainRecords.{plain_records, plain_use}
+use Rattle.brep_file.specs.PlainRecords.{plain_records, plain_root}
 use Rattle.brep_run.proofs.CopyLemmas.{file-sound}
 use Rattle.brep_run.specs.Outcomes.{OnDone}
 use Rattle.brep_run.specs.Runs.{Expands, Shares, IsReady, IsMissing}
@@ -16,7 +16,7 @@ returns-in-Copy-clause-expands g c =
 
 pub returns-in-Copy-clause-shares : goal.returns-in-Copy-clause-shares
 returns-in-Copy-clause-shares g c =
-    done_shares c.reading_is_exact.ensures (λ f sound. c.records_are_trees.ensures (plain_records f) (plain_use f.root) (file-sound f sound)) g.D.Desk.tells _ _ c.in-Copy.source.now c.in-Copy.target.now
+    done_shares c.reading_is_exact.ensures (λ f sound. c.records_are_trees.ensures (plain_records f) (plain_root f) (file-sound f sound)) g.D.Desk.tells _ _ c.in-Copy.source.now c.in-Copy.target.now
     (asked_of c.args.words.now) (ap asked_of (sym c.as_slice.ensures) ∙ c.in-Copy.ensures) c.copy.result
     (done_stands c.reading_is_exact.ensures c.texts_stand_for_roots.ensures g.D.Desk.tells _ _ c.in-Copy.source.now c.in-Copy.target.now
     (asked_of c.args.words.now) (ap asked_of (sym c.as_slice.ensures) ∙ c.in-Copy.ensures) c.copy.result c.copy.ensures.done)
@@ -32,7 +32,7 @@ returns-in-Rewrite-clause-shares g c =
     let asked = ap asked_of (sym c.as_slice.ensures) ∙ c.in-Rewrite.ensures in
     subst (λ a. OnDone c.rewrite.result (Shares g.D.Desk.tells (g.D.Desk.shows c.args.desk.now) (g.D.Desk.shows c.rewrite.new.desk) a)) (sym asked)
     (if_done_shares g.D.Desk.tells _ _ _ _ _ _ (written-apart _ _ _ _ _ asked)
-    (λ f sound. c.records_are_trees.ensures (plain_records f) (plain_use f.root) (file-sound f sound)) c.rewrite.result c.rewrite.ensures.done)
+    (λ f sound. c.records_are_trees.ensures (plain_records f) (plain_root f) (file-sound f sound)) c.rewrite.result c.rewrite.ensures.done)
 
 pub returns-in-Rewrite-clause-complete : goal.returns-in-Rewrite-clause-complete
 returns-in-Rewrite-clause-complete g c = λ ready calm.

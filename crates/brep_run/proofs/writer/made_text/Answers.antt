@@ -1,8 +1,18 @@
-use Rattle.std.proofs.Common.{◌∙◌, ◌++◌, sym, ap}
+use Rattle.std.proofs.Common.{◌≡◌, ◌∙◌, ◌++◌, sym, ap}
 use Rattle.std.specs.Prelude.{codes}
-use Rattle.brep_run.proofs.MadeRoot.{made-text}
+use Rattle.location_table.specs.Words.{datums_of}
+use Rattle.location_table.specs.Written.{written_section}
+use Rattle.brep_run.specs.Layout.{location_lines}
+use Rattle.brep_run.specs.Remaining.{made_root}
+use Rattle.brep_run.proofs.MadeRoot.{made-words, made_shapes}
+use Rattle.brep_run.proofs.WrittenTexts.{text_parts}
 use Rattle.brep_run.proofs.writer.made_text.Goals as goal
 
 pub returns : goal.returns
-returns c = λ f is.
-    c.in_ok-extend_from_slice.ensures.items ∙ ap (λ t. t ++ codes "1\nCo\n\n1101000\n*\n+1 0\n") c.in_ok-text.ensures ∙ sym (made-text f is)
+returns c =
+    let f = c.args.file.now in
+    c.in_ok-extend_from_slice.ensures.items
+    ∙ (λ i. c.in_ok-text.ensures i ++ sym (made_shapes f) i)
+    ∙ sym (text_parts f made_root c.requires.version _
+    ((λ i. location_lines (written_section (datums_of (c.in_ok-locations.ensures.section i)) (c.in_ok-locations.ensures.none i)))
+    ∙ ap (λ w. location_lines (written_section (datums_of f.locations) w)) (sym (made-words f))))

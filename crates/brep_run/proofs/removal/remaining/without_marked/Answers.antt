@@ -1,7 +1,7 @@
 use Rattle.std.proofs.Common.{rules, ◌≡◌, ◌<◌, ◌+◌, ◌-◌, ◌∙◌, sym, ap, subst, arith, length, slice_set}
 use Rattle.std.specs.Prelude.{List, Bool, Some, slice_get}
 use Rattle.std.proofs.lemmas.Option.{slice_get-get_or}
-use Rattle.brep_file.specs.PlainRecords.{plain_use}
+use Rattle.brep_file.specs.PlainRecords.{plain_root}
 use Rattle.brep_run.specs.Remaining.{kept_records, is_touched, touched}
 use Rattle.brep_file.specs.Marks.{mark_of}
 use Rattle.brep_run.proofs.RemovalTrees.{kept-file}
@@ -16,7 +16,7 @@ loop-place-preserved c =
     let records = c.loop-place.records.items in
     let changed = c.loop-place.changed.items in
     let flag = c.leave_out-touched.result in
-    let walk = c.records_are_trees.ensures (kept_records f removed) (plain_use f.root) (kept-file f removed c.requires.tell.sound) in
+    let walk = c.records_are_trees.ensures (kept_records f removed) (plain_root f) (kept-file f removed c.requires.tell.sound) in
     let test = c.loop-place-test.true in
     let size : c.len-count.result ≡ length f.records = search rules in
     let lt : place < length f.records = omega (arith, test, size) in

@@ -1,0 +1,38 @@
+use Rattle.std.proofs.Common.{◌≡◌, ◌+◌, ◌-◌, ◌<◌, ◌≤◌, List, [], ◌∷◌, length, Ok, Err, ap, sym, ◌∙◌, arith}
+use Rattle.std.proofs.lemmas.List.{length-append}
+use Rattle.brep_tokens.specs.declared.text.Token.{Token}
+use Rattle.entry_readers.specs.Reading.{more}
+use Rattle.brep_file.specs.Many.{many_from}
+use Rattle.brep_file.specs.RecordLeft.{AreFew, bounds_of, gathered_of, most_uses, record_left, so_far_of}
+use Rattle.brep_file.specs.RecordReading.{record_at, with_record}
+use Rattle.brep_file.proofs.Steps.{fresh, fresh_open, moved}
+use Rattle.brep_file.proofs.reader.records.RecordsReader.take.Goals as goal
+
+pub returns-else-self-eq0 : goal.returns-else-self-eq0
+returns-else-self-eq0 c =
+    let b = bounds_of c.args.self.now.bounds in
+    let s = so_far_of c.args.self.now.so_far in
+    let longer = so_far_of c.push.new.self in
+    let head = c.done-head.result.0 in
+    let made = gathered_of c.done-head.result.1 in
+    let due : 0 < c.args.self.now.due - 1 = omega (arith, c.if-self-eq0.false) in
+    let left : (ts : List Token) → record_left b longer c.replace-reader.new.dest ts ≡ record_at b longer ts = λ ts. rw c.replace-reader.ensures.after (c.new.ensures.left b longer ts) in
+    let is_open : record_left b longer c.replace-reader.new.dest [] ≡ Err more = rw c.replace-reader.ensures.after (c.new.ensures.open b longer) in
+    let took = rw c.in-Ok-Whole.field-0-is at c.in-Ok-Whole.ensures in
+    let read : (rest : List Token) → record_left b s c.args.self.now.reader (c.args.t.now ∷ rest) ≡ Ok (with_record s head made, rest) =
+    λ rest. sym (took.0 rest) ∙ rw (← c.replace-reader.ensures.value) (c.done-head.ensures.left b s rest) in
+    let few : AreFew c.args.self.now.so_far.uses c.done-head.result.1 = c.done-head.ensures.few c.args.self.now.so_far.uses (rw c.replace-reader.ensures.value took.1) in
+    let seen : length longer.seen ≡ length s.seen + 1 = ap (λ z. length z.seen) c.in-Ok.ensures ∙ length-append s.seen _ in
+    let uses : longer.uses ≡ s.uses + length made.uses = ap (λ z. z.uses) c.in-Ok.ensures in
+    let within : longer.uses ≤ most_uses = omega (arith, uses, few.within) in (
+      λ rest. fresh (record_at b) (record_left b longer c.replace-reader.new.dest) longer (c.args.self.now.due - 1) due left rest
+          ∙ ap (λ z. many_from (record_at b) z (c.args.self.now.due - 1) rest) c.in-Ok.ensures
+          ∙ sym (moved (record_at b) (record_left b s c.args.self.now.reader) s c.args.self.now.due c.requires.due (with_record s head made) (c.args.t.now ∷ rest) rest (read rest)),
+      fresh_open (record_at b) (record_left b longer c.replace-reader.new.dest) longer (c.args.self.now.due - 1) due is_open,
+      record {
+        due = due;
+        count = omega (arith, seen, c.requires.count, c.requires.due);
+        uses = within;
+        waits = rw c.replace-reader.ensures.after (c.new.ensures.waits longer.uses within);
+      },
+    )

@@ -1,0 +1,210 @@
+//! The sections of a file: from each of them on, what is read into the file so far.
+ghost use Rattle.brep_file.specs.FileReading.{begun, from_curve2s, from_curves, from_locations, from_meshes, from_polygons, from_polygons_on, from_records, from_root, from_surfaces};
+ghost use Rattle.brep_file.specs.Giving.{Gives, IsReading, from_counted, from_placed};
+ghost use Rattle.brep_file.specs.Sound.{file_limits};
+ghost use Rattle.brep_file.specs.LocationsLeft.{most_entries};
+ghost use Rattle.std.specs.Prelude.{◌≡◌, ◌≤◌, length};
+
+use crate::file::File;
+use crate::reader::pull::{heading, locations, records, root, section};
+use crate::reader::state::Bounds;
+use crate::records::Records;
+use crate::uses::FileUse;
+use brep_tokens::{ReadStop, Scanner};
+use curve_tables::{Curve2Reader, Curve3Reader};
+use entry_readers::EntryList;
+use location_table::Locations;
+use mesh_tables::{MeshReader, Polygon3Reader, PolygonOnMeshReader};
+use orientation::Turn;
+use std::alloc::Global;
+use surface_tables::{SurfaceReader, Surfaces};
+
+/// A file of which nothing was read but its version.
+pub(crate) fn begun_file(alloc: Global, version: u8) -> File
+    ensures { result ≡ begun version }
+{
+    File {
+        version,
+        locations: Locations::new(alloc),
+        curve2s: EntryList::new(alloc),
+        curves: EntryList::new(alloc),
+        polygons: EntryList::new(alloc),
+        polygons_on: EntryList::new(alloc),
+        surfaces: Surfaces::new(alloc),
+        meshes: EntryList::new(alloc),
+        records: Records::new(alloc),
+        root: FileUse {
+            turn: Turn::Forward,
+            number: 0,
+            location: 0,
+        },
+    }
+}
+
+/// The root use.
+fn with_root(s: &mut Scanner, file: File, records: u32) -> Result<File, ReadStop>
+    requires reading { IsReading s.old }
+    requires count { length file.records ≡ records }
+    ensures { Gives (λ f. f) (from_root file) s.old s.new result }
+{
+    let mut file = file;
+    match root(s, file.locations.len(), records) {
+        Err(e) => Err(e),
+        Ok(root) => {
+            file.root = root;
+            Ok(file)
+        }
+    }
+}
+
+/// So many records, and the root use.
+fn with_counted(alloc: Global, s: &mut Scanner, file: File, count: u32) -> Result<File, ReadStop>
+    requires { IsReading s.old }
+    ensures { Gives (λ f. f) (from_counted file count) s.old s.new result }
+{
+    let mut file = file;
+    let bounds = Bounds {
+        locations: file.locations.len(),
+        records: count,
+    };
+    match records(alloc, s, bounds) {
+        Err(e) => Err(e),
+        Ok(so_far) => {
+            file.records = so_far.records;
+            with_root(s, file, count)
+        }
+    }
+}
+
+/// The records, and the root use.
+fn with_records(alloc: Global, s: &mut Scanner, file: File) -> Result<File, ReadStop>
+    requires { IsReading s.old }
+    ensures { Gives (λ f. f) (from_records file_limits file) s.old s.new result }
+{
+    match heading(s, b"TShapes", 2_097_152) {
+        Err(e) => Err(e),
+        Ok(count) => with_counted(alloc, s, file, count as u32),
+    }
+}
+
+/// Reads the meshes and what follows them.
+fn with_meshes(alloc: Global, s: &mut Scanner, file: File) -> Result<File, ReadStop>
+    requires { IsReading s.old }
+    ensures { Gives (λ f. f) (from_meshes file_limits file) s.old s.new result }
+{
+    let mut file = file;
+    match section::<MeshReader>(alloc, s, b"Triangulations") {
+        Err(e) => Err(e),
+        Ok(entries) => {
+            file.meshes = EntryList::from_vec(entries);
+            with_records(alloc, s, file)
+        }
+    }
+}
+
+/// Reads the surfaces and what follows them.
+fn with_surfaces(alloc: Global, s: &mut Scanner, file: File) -> Result<File, ReadStop>
+    requires { IsReading s.old }
+    ensures { Gives (λ f. f) (from_surfaces file_limits file) s.old s.new result }
+{
+    let mut file = file;
+    match section::<SurfaceReader>(alloc, s, b"Surfaces") {
+        Err(e) => Err(e),
+        Ok(entries) => {
+            file.surfaces = Surfaces::from_vec(entries);
+            with_meshes(alloc, s, file)
+        }
+    }
+}
+
+/// Reads the polygons on meshes and what follows them.
+fn with_polygons_on(alloc: Global, s: &mut Scanner, file: File) -> Result<File, ReadStop>
+    requires { IsReading s.old }
+    ensures { Gives (λ f. f) (from_polygons_on file_limits file) s.old s.new result }
+{
+    let mut file = file;
+    match section::<PolygonOnMeshReader>(alloc, s, b"PolygonOnTriangulations") {
+        Err(e) => Err(e),
+        Ok(entries) => {
+            file.polygons_on = EntryList::from_vec(entries);
+            with_surfaces(alloc, s, file)
+        }
+    }
+}
+
+/// Reads the polygons in space and what follows them.
+fn with_polygons(alloc: Global, s: &mut Scanner, file: File) -> Result<File, ReadStop>
+    requires { IsReading s.old }
+    ensures { Gives (λ f. f) (from_polygons file_limits file) s.old s.new result }
+{
+    let mut file = file;
+    match section::<Polygon3Reader>(alloc, s, b"Polygon3D") {
+        Err(e) => Err(e),
+        Ok(entries) => {
+            file.polygons = EntryList::from_vec(entries);
+            with_polygons_on(alloc, s, file)
+        }
+    }
+}
+
+/// Reads the 3D curves and what follows them.
+fn with_curves(alloc: Global, s: &mut Scanner, file: File) -> Result<File, ReadStop>
+    requires { IsReading s.old }
+    ensures { Gives (λ f. f) (from_curves file_limits file) s.old s.new result }
+{
+    let mut file = file;
+    match section::<Curve3Reader>(alloc, s, b"Curves") {
+        Err(e) => Err(e),
+        Ok(entries) => {
+            file.curves = EntryList::from_vec(entries);
+            with_polygons(alloc, s, file)
+        }
+    }
+}
+
+/// Reads the 2D curves and what follows them.
+fn with_curve2s(alloc: Global, s: &mut Scanner, file: File) -> Result<File, ReadStop>
+    requires { IsReading s.old }
+    ensures { Gives (λ f. f) (from_curve2s file_limits file) s.old s.new result }
+{
+    let mut file = file;
+    match section::<Curve2Reader>(alloc, s, b"Curve2ds") {
+        Err(e) => Err(e),
+        Ok(entries) => {
+            file.curve2s = EntryList::from_vec(entries);
+            with_curves(alloc, s, file)
+        }
+    }
+}
+
+/// So many locations, and what follows them.
+fn with_so_many_locations(
+    alloc: Global,
+    s: &mut Scanner,
+    file: File,
+    count: u64,
+) -> Result<File, ReadStop>
+    requires reading { IsReading s.old }
+    requires few { count ≤ most_entries }
+    ensures { Gives (λ f. f) (from_placed file count) s.old s.new result }
+{
+    let mut file = file;
+    match locations(alloc, s, count) {
+        Err(e) => Err(e),
+        Ok(locations) => {
+            file.locations = locations;
+            with_curve2s(alloc, s, file)
+        }
+    }
+}
+
+/// Reads the locations and what follows them.
+pub(crate) fn with_locations(alloc: Global, s: &mut Scanner, file: File) -> Result<File, ReadStop>
+    requires { IsReading s.old }
+    ensures { Gives (λ f. f) (from_locations file_limits file) s.old s.new result }
+{
+    match heading(s, b"Locations", 4_194_304) {
+        Err(e) => Err(e),
+        Ok(count) => with_so_many_locations(alloc, s, file, count),
+    }
+}

@@ -1,0 +1,263 @@
+-- The steps of loops over locations and over the entries of tables.
+use Rattle.std.proofs.Common.{◌≡◌, ◌<◌, ◌≤◌, ◌+◌, ◌-◌, refl, sym, ◌∙◌, ap, subst, arith, add-one, get_or, inl, inr}
+use Rattle.std.specs.Prelude.{ℕ, zero, suc, Bool, true, false, if◌then◌else◌, Some, List, [], ◌∷◌, ◌++◌, All, map, take, length, slice_get, slice_index, slice_index_or, Contains, codes}
+use Rattle.std.specs.List.{AllByRecursion, flat_map, join_with_byte}
+use Rattle.std.specs.Option.{option_map_or}
+use Rattle.std.specs.Fmt.{decimal, digits, signed_decimal}
+use Rattle.std.specs.Iterator.{Drains, Yields, YieldsFirst}
+use Rattle.std.proofs.Math.Seq.{take-suc}
+use Rattle.std.proofs.lemmas.Grind.{flat_map-append}
+use Rattle.std.proofs.lemmas.List.{append_assoc, append-nil, map-append, length-map}
+use Rattle.std.proofs.lemmas.List.Elements.{All-from_recursion, All-contains, Contains-get_or, Contains-append_left}
+use Rattle.brep_tokens.specs.Written.{line_text, lines_text}
+use Rattle.entry_readers.specs.Spelled.{AreShort}
+use Rattle.location_words.specs.declared.pair.Pair.{Pair}
+use Rattle.location_table.specs.declared.entry.LocationEntry.{LocationEntry}
+use Rattle.location_table.specs.declared.entry.LocationEntry.TheVariants.{Datum, Product}
+use Rattle.location_table.specs.Locations.{factor, spell_factor, spell_location}
+use Rattle.location_table.specs.Spell.{CanSpellLocation}
+use Rattle.location_table.specs.Words.{datums_of, word_of_place}
+use Rattle.location_table.specs.Written.{product_of}
+use Rattle.written_locations.specs.declared.written.WrittenLocations.{WrittenLocations}
+use Rattle.written_locations.specs.Further.{further_words, with_word}
+use Rattle.written_locations.specs.Met.{further_of, word_at, HasMet, IsNumbering, Meets}
+use Rattle.written_locations.proofs.Meeting.{datums-few, few-further, meets-more}
+use Rattle.expansion_laws.specs.Expansion.{IsNumberOf}
+use Rattle.expansion_laws.proofs.Members.{Contains-at, Contains-flat_map, Contains-map, take-at}
+use Rattle.curve_tables.specs.Spelling.{spelling2, spelling3}
+use Rattle.mesh_tables.specs.Spelling.{spell_mesh, spell_polygon, spell_polygon_on}
+use Rattle.surface_tables.specs.Spelling.{spell_surface}
+use Rattle.brep_file.specs.declared.uses.FileUse.{FileUse}
+use Rattle.brep_file.specs.declared.records.Record.{Record}
+use Rattle.brep_file.specs.declared.file.File.{File}
+use Rattle.brep_file.specs.PlainRecords.{record_of}
+use Rattle.brep_file.specs.Sound.{IsSound}
+use Rattle.brep_file.specs.Spelling.{section, spell_record, spell_tables, spell_use}
+use Rattle.brep_run.specs.Layout.{Line}
+use Rattle.brep_run.specs.Completion.{NumbersTell, ArePlaced, AreLocated, locations_of_number, locations_used}
+use Rattle.brep_run.proofs.ShortTokens.{each-left, each-right, each-of}
+use Rattle.brep_run.proofs.LayoutLemmas.{spell_others}
+
+-- ---- one item more
+take-one : {X : Type 0} (xs : List X) (i : ℕ) (d : X) → i < length xs → take (i + 1) xs ≡ take i xs ++ slice_index_or xs i d ∷ []
+take-one xs i d lt = rw add-one (take-suc xs i d lt)
+
+pub met-use : (us : List FileUse) (i : ℕ) (d : FileUse) (s t u : WrittenLocations) → i < length us → Meets (map (λ (v : FileUse). v.location) (take i us)) s t →
+    Meets ((slice_index_or us i d).location ∷ []) t u → Meets (map (λ (v : FileUse). v.location) (take (i + 1) us)) s u
+met-use us i d s t u lt a b =
+    subst (λ l. Meets l s u)
+    (sym (ap (map (λ (v : FileUse). v.location)) (take-one us i d lt) ∙ map-append (λ (v : FileUse). v.location) (take i us) (slice_index_or us i d ∷ [])))
+    (meets-more (map (λ (v : FileUse). v.location) (take i us)) ((slice_index_or us i d).location ∷ []) s t u a b)
+
+pub met-record : (f : File) (ns : List ℕ) (i : ℕ) (r : Record) (s t u : WrittenLocations) → i < length ns → record_of f (slice_index ns i) ≡ Some r →
+    Meets (flat_map (locations_of_number f) (take i ns)) s t → (us : List FileUse) → us ≡ r.uses → Meets (map (λ (v : FileUse). v.location) us) t u →
+    Meets (flat_map (locations_of_number f) (take (i + 1) ns)) s u
+met-record f ns i r s t u lt is a us same b =
+    let own : locations_of_number f (slice_index ns i) ≡ map (λ (v : FileUse). v.location) us =
+    ap (λ o. option_map_or (λ (q : Record). map (λ (v : FileUse). v.location) q.uses) o []) is ∙ ap (map (λ (v : FileUse). v.location)) (sym same) in
+    subst (λ l. Meets l s u)
+    (sym (ap (flat_map (locations_of_number f)) (take-one ns i 0 lt)
+    ∙ flat_map-append (locations_of_number f) (take i ns) (slice_index ns i ∷ [])
+    ∙ ap (λ l. flat_map (locations_of_number f) (take i ns) ++ l) (append-nil (locations_of_number f (slice_index ns i)) ∙ own)))
+    (meets-more (flat_map (locations_of_number f) (take i ns)) (map (λ (v : FileUse). v.location) us) s t u a b)
+
+-- ---- the uses of a sound file's records
+module _ (f : File) (tell : NumbersTell f) where
+  pub uses-within : (k : ℕ) (r : Record) → IsNumberOf (length f.records) k → record_of f k ≡ Some r → (us : List FileUse) → us ≡ r.uses → (entries : List LocationEntry) → entries ≡ f.locations →
+      All (λ (u : FileUse). u.location ≤ length entries) us
+  uses-within k r n is us same entries here i d lt =
+      let short : i < length r.uses = subst (λ (vs : List FileUse). i < length vs) same lt in
+      let within = ((tell.sound.records k r n is).uses i d short).location in
+      subst (λ (vs : List FileUse). (slice_index_or vs i d).location ≤ length entries) (sym same)
+      (subst (λ l. (slice_index_or r.uses i d).location ≤ length l) (sym here) within)
+
+  module _ (numbers places : List ℕ) (placed : ArePlaced (length f.records) numbers places) (s : WrittenLocations) (located : AreLocated f (locations_used f numbers) s) where
+    pub uses-met : (i : ℕ) → i < length numbers → (r : Record) → record_of f (slice_index numbers i) ≡ Some r → (us : List FileUse) → us ≡ r.uses → All (λ (u : FileUse). HasMet s u.location) us
+    uses-met i lt r is us same j d within =
+        let k : ℕ = slice_index numbers i in
+        let short : j < length r.uses = subst (λ (vs : List FileUse). j < length vs) same within in
+        let u : FileUse = slice_index_or r.uses j d in
+        let own : Contains (map (λ (v : FileUse). v.location) r.uses) u.location = Contains-map (λ (v : FileUse). v.location) u r.uses (Contains-get_or r.uses j d short) in
+        let of : Contains (locations_of_number f k) u.location =
+        subst (λ o. Contains (option_map_or (λ (q : Record). map (λ (v : FileUse). v.location) q.uses) o []) u.location) (sym is) own in
+        subst (λ (vs : List FileUse). HasMet s (slice_index_or vs j d).location) (sym same)
+        (located.met u.location (Contains-append_left (flat_map (locations_of_number f) numbers) (f.root.location ∷ []) u.location
+        (Contains-flat_map (locations_of_number f) k u.location numbers (Contains-get_or numbers i 0 lt) of)))
+
+-- ---- how many entries the section that is written has
+pub few-written : (s : WrittenLocations) → IsNumbering s → (datums further : ℕ) → datums ≡ length (datums_of s.section.now) → further ≡ length (further_of s) → datums + further ≤ 8589934591
+few-written s n datums further d w =
+    let fewer = datums-few s.section.now in let count = few-further s n in let few = n.few in omega (arith, d, w, fewer, count, few)
+
+-- ---- words on a line
+spaced : (x : List ℕ) (xs : List (List ℕ)) → join_with_byte 32 (x ∷ xs) ≡ x ++ flat_map (λ (t : List ℕ). 32 ∷ t) xs
+spaced x [] = sym (append-nil x)
+spaced x (y ∷ ys) = ap (λ t. x ++ 32 ∷ t) (spaced y ys)
+
+-- a power of a datum, with a space before each number
+abbrev pub pair_text : Pair → List ℕ
+pair_text p = 32 ∷ (decimal p.datum ++ 32 ∷ signed_decimal p.power)
+
+pairs-spaced : (w : List Pair) → flat_map (λ (t : List ℕ). 32 ∷ t) (flat_map spell_factor (map (λ (p : Pair). factor p.datum p.power) w)) ≡ flat_map pair_text w
+pairs-spaced [] = refl
+pairs-spaced (p ∷ w) =
+    ap (λ t. 32 ∷ (decimal p.datum ++ 32 ∷ (signed_decimal p.power ++ t))) (pairs-spaced w)
+    ∙ sym (ap (λ t. 32 ∷ t) (append_assoc (decimal p.datum) (32 ∷ signed_decimal p.power) (flat_map pair_text w)))
+
+zero_text : decimal 0 ≡ 48 ∷ []
+unfolding digits
+zero_text = refl
+
+two_text : decimal 2 ≡ 50 ∷ []
+unfolding digits
+two_text = refl
+
+pub word_text : (w : List Pair) → line_text (spell_location (product_of w)) ≡ 50 ∷ (flat_map pair_text w ++ codes " 0\n")
+word_text w =
+    let factors : List (List ℕ) = flat_map spell_factor (map (λ (p : Pair). factor p.datum p.power) w) in
+    ap (λ t. t ++ 10 ∷ []) (spaced (decimal 2) (factors ++ decimal 0 ∷ []))
+    ∙ ap (λ t. (decimal 2 ++ t) ++ 10 ∷ []) (flat_map-append (λ (t : List ℕ). 32 ∷ t) factors (decimal 0 ∷ []) ∙ (λ i. pairs-spaced w i ++ (32 ∷ (zero_text i ++ []))))
+    ∙ ap (λ t. (t ++ (flat_map pair_text w ++ 32 ∷ 48 ∷ [])) ++ 10 ∷ []) two_text
+    ∙ ap (λ t. 50 ∷ t) (append_assoc (flat_map pair_text w) (32 ∷ 48 ∷ []) (10 ∷ []))
+
+-- one word more
+pub words-more : (words : List (List Pair)) (i : ℕ) (w : List Pair) → slice_get words i ≡ Some w →
+    lines_text (map spell_location (map product_of (take (i + 1) words))) ≡ lines_text (map spell_location (map product_of (take i words))) ++ line_text (spell_location (product_of w))
+words-more words i w is =
+    ap (λ l. lines_text (map spell_location (map product_of l))) (take-at words i w is)
+    ∙ ap (λ l. lines_text (map spell_location l)) (map-append product_of (take i words) (w ∷ []))
+    ∙ ap lines_text (map-append spell_location (map product_of (take i words)) (product_of w ∷ []))
+    ∙ flat_map-append line_text (map spell_location (map product_of (take i words))) (spell_location (product_of w) ∷ [])
+    ∙ ap (λ t. lines_text (map spell_location (map product_of (take i words))) ++ t) (append-nil (line_text (spell_location (product_of w))))
+
+datums-append : (a b : List LocationEntry) → datums_of (a ++ b) ≡ datums_of a ++ datums_of b
+datums-append [] b = refl
+datums-append (Datum texts ∷ a) b = ap (λ l. texts ∷ l) (datums-append a b)
+datums-append (Product factors ∷ a) b = datums-append a b
+
+-- the lines of datums
+abbrev pub datum_lines : List LocationEntry → List ℕ
+datum_lines entries = lines_text (map spell_location (map Datum (datums_of entries)))
+
+datum_lines-append : (a b : List LocationEntry) → datum_lines (a ++ b) ≡ datum_lines a ++ datum_lines b
+datum_lines-append a b =
+    ap (λ l. lines_text (map spell_location (map Datum l))) (datums-append a b)
+    ∙ ap (λ l. lines_text (map spell_location l)) (map-append Datum (datums_of a) (datums_of b))
+    ∙ ap lines_text (map-append spell_location (map Datum (datums_of a)) (map Datum (datums_of b)))
+    ∙ flat_map-append line_text (map spell_location (map Datum (datums_of a))) (map spell_location (map Datum (datums_of b)))
+
+pub datums-more : (entries : List LocationEntry) (i : ℕ) (d : LocationEntry) → i < length entries →
+    datum_lines (take (i + 1) entries) ≡ datum_lines (take i entries) ++ datum_lines (slice_index_or entries i d ∷ [])
+datums-more entries i d lt = ap datum_lines (take-one entries i d lt) ∙ datum_lines-append (take i entries) (slice_index_or entries i d ∷ [])
+
+-- ---- the tokens that an iterator gives
+pub drains-first : {S : Type 0} (rest : S → List (List ℕ)) (s : S) (xs : List (List ℕ)) → Drains (YieldsFirst rest) s xs → rest s ≡ xs
+drains-first {S} rest s xs drains = go s xs drains.1.0 drains.1.1 drains.1.2.0
+  where
+    go : (a : S) (ys : List (List ℕ)) (t : S) → Yields (YieldsFirst rest) a ys t → rest t ≡ [] → rest a ≡ ys
+    go a [] t y e = ap rest y ∙ e
+    go a (y ∷ ys) t steps e = steps.1 ∙ ap (λ l. y ∷ l) (go steps.0 ys t steps.2 e)
+
+-- a token more on a line
+abbrev pub is_none : List (List ℕ) → Bool
+is_none [] = true
+is_none (x ∷ xs) = false
+
+join-push : (xs : List (List ℕ)) (x : List ℕ) → join_with_byte 32 (xs ++ x ∷ []) ≡ join_with_byte 32 xs ++ (if is_none xs then x else 32 ∷ x)
+join-push [] x = refl
+join-push (y ∷ []) x = refl
+join-push (y ∷ z ∷ xs) x = ap (λ t. y ++ 32 ∷ t) (join-push (z ∷ xs) x) ∙ sym (append_assoc y (32 ∷ join_with_byte 32 (z ∷ xs)) (32 ∷ x))
+
+none-push : (xs : List (List ℕ)) (x : List ℕ) → is_none (xs ++ x ∷ []) ≡ false
+none-push [] x = refl
+none-push (y ∷ xs) x = refl
+
+pub token-more : (init before after : List ℕ) (xs : List (List ℕ)) (x : List ℕ) (first : Bool) → before ≡ init ++ join_with_byte 32 xs → first ≡ is_none xs →
+    after ≡ before ++ (if first then x else 32 ∷ x) → (after ≡ init ++ join_with_byte 32 (xs ++ x ∷ [])) × (false ≡ is_none (xs ++ x ∷ []))
+token-more init before after xs x first is flag more = (
+  more
+      ∙ (λ i. is i ++ (if flag i then x else 32 ∷ x))
+      ∙ append_assoc init (join_with_byte 32 xs) (if is_none xs then x else 32 ∷ x)
+      ∙ ap (λ t. init ++ t) (sym (join-push xs x)),
+  sym (none-push xs x),
+)
+
+-- ---- entries that can be spelled
+all-can : {A : Type 0} (IsSoundEntry CanSpell : A → Type 0) (spell : A → List (List ℕ)) → ((e : A) → IsSoundEntry e → AreShort (spell e) → CanSpell e) → (entries : List A) →
+    AllByRecursion IsSoundEntry entries → AreShort (flat_map spell entries) → AllByRecursion CanSpell entries
+all-can IsSoundEntry CanSpell spell h [] sound short = tt
+all-can IsSoundEntry CanSpell spell h (e ∷ entries) sound short = (
+  h e sound.0 (each-left (λ (t : List ℕ). length t ≤ 128) (spell e) (flat_map spell entries) short),
+  all-can IsSoundEntry CanSpell spell h entries sound.1 (each-right (λ (t : List ℕ). length t ≤ 128) (spell e) (flat_map spell entries) short),
+)
+
+pub can-all : {A : Type 0} (IsSoundEntry CanSpell : A → Type 0) (spell : A → List (List ℕ)) → ((e : A) → IsSoundEntry e → AreShort (spell e) → CanSpell e) → (entries given : List A) → given ≡ entries →
+    AllByRecursion IsSoundEntry entries → AreShort (flat_map spell entries) → All CanSpell given
+can-all IsSoundEntry CanSpell spell h entries given same sound short = subst (All CanSpell) (sym same) (All-from_recursion CanSpell entries (all-can IsSoundEntry CanSpell spell h entries sound short))
+
+locations-can : (entries : List LocationEntry) → AreShort (flat_map spell_location entries) → AllByRecursion CanSpellLocation entries
+locations-can [] short = tt
+locations-can (Datum texts ∷ entries) short = (
+  each-left (λ (t : List ℕ). length t ≤ 128) texts (flat_map spell_location entries) short.1,
+  locations-can entries (each-right (λ (t : List ℕ). length t ≤ 128) texts (flat_map spell_location entries) short.1),
+)
+locations-can (Product factors ∷ entries) short =
+    (tt, locations-can entries (each-right (λ (t : List ℕ). length t ≤ 128) (spell_location (Product factors)) (flat_map spell_location entries) short))
+
+-- the tokens of a sound file's tables
+pub short-tables : (f : File) → IsSound f → AreShort (spell_tables f)
+short-tables f sound = each-left (λ (t : List ℕ). length t ≤ 128) (spell_tables f) (section (codes "TShapes") spell_record f.records ++ spell_use f.root) sound.tokens
+
+pub short-others : (f : File) → IsSound f → AreShort (spell_others f)
+short-others f sound = each-right (λ (t : List ℕ). length t ≤ 128) (section (codes "Locations") spell_location f.locations) (spell_others f) (short-tables f sound)
+
+-- the tokens of each table of a sound file
+pub record ShortTables (f : File) : Type 0 where
+  pub curve2s : AreShort (flat_map spelling2 f.curve2s)
+  pub curves : AreShort (flat_map spelling3 f.curves)
+  pub polygons : AreShort (flat_map spell_polygon f.polygons)
+  pub polygons_on : AreShort (flat_map spell_polygon_on f.polygons_on)
+  pub surfaces : AreShort (flat_map spell_surface f.surfaces)
+  pub meshes : AreShort (flat_map spell_mesh f.meshes)
+
+pub short-table : (f : File) → IsSound f → ShortTables f
+short-table f sound =
+    let P : List ℕ → Type 0 = λ t. length t ≤ 128 in
+    let a = short-others f sound in
+    let b = each-right P (section (codes "Curve2ds") spelling2 f.curve2s) _ a in
+    let d = each-right P (section (codes "Curves") spelling3 f.curves) _ b in
+    let e = each-right P (section (codes "Polygon3D") spell_polygon f.polygons) _ d in
+    let h = each-right P (section (codes "PolygonOnTriangulations") spell_polygon_on f.polygons_on) _ e in
+    let j = each-right P (section (codes "Surfaces") spell_surface f.surfaces) _ h in
+    record {
+      curve2s = (each-left P (section (codes "Curve2ds") spelling2 f.curve2s) _ a).1.1;
+      curves = (each-left P (section (codes "Curves") spelling3 f.curves) _ b).1.1;
+      polygons = (each-left P (section (codes "Polygon3D") spell_polygon f.polygons) _ d).1.1;
+      polygons_on = (each-left P (section (codes "PolygonOnTriangulations") spell_polygon_on f.polygons_on) _ e).1.1;
+      surfaces = (each-left P (section (codes "Surfaces") spell_surface f.surfaces) _ h).1.1;
+      meshes = j.1.1;
+    }
+
+-- lines in front of others
+pub lines-before : (first others : List Line) → lines_text (first ++ others) ≡ lines_text first ++ lines_text others
+lines-before first others = flat_map-append line_text first others
+
+pub six : (init t1 t2 t3 t4 t5 t6 : List ℕ) (a b d e h g : List Line) → t1 ≡ init ++ lines_text a → t2 ≡ t1 ++ lines_text b → t3 ≡ t2 ++ lines_text d → t4 ≡ t3 ++ lines_text e → t5 ≡ t4 ++ lines_text h →
+    t6 ≡ t5 ++ lines_text g → t6 ≡ init ++ lines_text (a ++ (b ++ (d ++ (e ++ (h ++ g)))))
+six init t1 t2 t3 t4 t5 t6 a b d e h g e1 e2 e3 e4 e5 e6 =
+    e6
+    ∙ ap (λ t. t ++ lines_text g) (e5 ∙ ap (λ t. t ++ lines_text h) (e4 ∙ ap (λ t. t ++ lines_text e) (e3 ∙ ap (λ t. t ++ lines_text d) (e2 ∙ ap (λ t. t ++ lines_text b) e1))))
+    ∙ in-row init (lines_text a) (lines_text b) (lines_text d) (lines_text e) (lines_text h) (lines_text g)
+    ∙ ap (λ t. init ++ t)
+    (sym (lines-before a (b ++ (d ++ (e ++ (h ++ g)))) ∙ ap (λ t. lines_text a ++ t)
+    (lines-before b (d ++ (e ++ (h ++ g))) ∙ ap (λ t. lines_text b ++ t) (lines-before d (e ++ (h ++ g)) ∙ ap (λ t. lines_text d ++ t)
+    (lines-before e (h ++ g) ∙ ap (λ t. lines_text e ++ t) (lines-before h g))))))
+  where
+    in-row : (i p q r s t u : List ℕ) → (((((i ++ p) ++ q) ++ r) ++ s) ++ t) ++ u ≡ i ++ (p ++ (q ++ (r ++ (s ++ (t ++ u)))))
+    in-row i p q r s t u = simp append_assoc
+
+pub can-locations : (f : File) → IsSound f → (entries : List LocationEntry) → entries ≡ f.locations → All CanSpellLocation entries
+can-locations f sound entries same =
+    subst (All CanSpellLocation) (sym same)
+    (All-from_recursion CanSpellLocation f.locations
+    (locations-can f.locations (each-left (λ (t : List ℕ). length t ≤ 128) (section (codes "Locations") spell_location f.locations) (spell_others f) (short-tables f sound)).1.1))

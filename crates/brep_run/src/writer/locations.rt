@@ -1,0 +1,144 @@
+//! The locations that are written: which they are, and their lines.
+ghost use Rattle.brep_run.specs.Completion.{ArePlaced, AreLocated, NumbersTell, locations_of, locations_of_number, locations_used};
+ghost use Rattle.brep_run.specs.Layout.{location_lines};
+ghost use Rattle.brep_tokens.specs.Written.{line_text, lines_text};
+ghost use Rattle.location_table.specs.Locations.{spell_location};
+ghost use Rattle.location_table.specs.Spell.{CanSpellLocation};
+ghost use Rattle.location_table.specs.Words.{datums_of};
+ghost use Rattle.location_table.specs.Written.{product_of};
+ghost use Rattle.location_table.specs.declared.entry.LocationEntry.TheVariants.{Datum};
+ghost use Rattle.std.specs.Fmt.{decimal, signed_decimal};
+ghost use Rattle.std.specs.List.{flat_map};
+ghost use Rattle.std.specs.Prelude.{◌≡◌, ◌∷◌, ◌++◌, ◌≤◌, All, IfOk, OnOk, [], length, map};
+ghost use Rattle.written_locations.specs.Met.{further_of, IsNumbering, Meets};
+
+use super::lines::{push_heading, push_number};
+use super::order::{Order, record_at};
+use super::tables::TableEntry;
+use brep_file::{File, FileUse};
+use itoa::Buffer;
+use location_table::{LocationEntry, Locations};
+use location_words::Pair;
+use std::alloc::{AllocError, Global};
+use written_locations::WrittenLocations;
+
+/// The locations of uses are met.
+fn meet_uses(locations: &mut WrittenLocations<'_>, uses: &[FileUse]) -> Result<(), AllocError>
+    requires numbering { IsNumbering locations.old }
+    requires within { All (λ u. u.location ≤ length locations.old.section.now) uses.now }
+    ensures { OnOk result (Meets (map (λ u. u.location) uses.now) locations.old locations.new) }
+{
+    for used in uses {
+        locations.meet(used.location)?;
+    }
+    Ok(())
+}
+
+/// The locations of the records are met, in the order in which these are written.
+fn meet_records(
+    locations: &mut WrittenLocations<'_>,
+    file: &File,
+    order: &Order,
+) -> Result<(), AllocError>
+    requires tell { NumbersTell file.now }
+    requires placed { ArePlaced (length file.now.records) order.now.numbers.items order.now.places.items }
+    requires numbering { IsNumbering locations.old }
+    requires section { locations.old.section.now ≡ file.now.locations }
+    ensures { OnOk result (Meets (flat_map (locations_of_number file.now) order.now.numbers.items) locations.old locations.new) }
+{
+    for number in order.numbers() {
+        meet_uses(locations, record_at(file, *number as usize).uses.as_slice())?;
+    }
+    Ok(())
+}
+
+/// The locations that are written with these records and the root.
+pub(crate) fn locations_in<'a>(
+    alloc: Global,
+    file: &'a File,
+    order: &Order,
+) -> Result<WrittenLocations<'a>, AllocError>
+    requires tell { NumbersTell file.now }
+    requires placed { ArePlaced (length file.now.records) order.now.numbers.items order.now.places.items }
+    ensures { IfOk result (AreLocated file.now (locations_used file.now order.now.numbers.items)) }
+{
+    let mut locations = WrittenLocations::new(alloc, &file.locations)?;
+    meet_records(&mut locations, file, order)?;
+    locations.meet(file.root.location)?;
+    Ok(locations)
+}
+
+/// The line of an entry that is a datum; of another entry nothing.
+fn push_if_datum(text: &mut Vec<u8>, entry: &LocationEntry) -> Result<(), AllocError>
+    requires { CanSpellLocation entry.now }
+    ensures { OnOk result (text.new.items ≡ text.old.items ++ lines_text (map spell_location (map Datum (datums_of (entry.now ∷ []))))) }
+{
+    match entry {
+        LocationEntry::Datum(_) => entry.push_to(text),
+        LocationEntry::Product(_) => Ok(()),
+    }
+}
+
+/// The lines of a section's datums.
+fn push_datums(text: &mut Vec<u8>, section: &Locations) -> Result<(), AllocError>
+    requires { All CanSpellLocation section.now }
+    ensures { OnOk result (text.new.items ≡ text.old.items ++ lines_text (map spell_location (map Datum (datums_of section.now)))) }
+{
+    for entry in section.as_slice() {
+        push_if_datum(text, entry)?;
+    }
+    Ok(())
+}
+
+/// A power of a datum, with a space before each of the two numbers.
+fn push_pair(text: &mut Vec<u8>, pair: Pair) -> Result<(), AllocError>
+    ensures { OnOk result (text.new.items ≡ text.old.items ++ 32 ∷ (decimal pair.datum ++ 32 ∷ signed_decimal pair.power)) }
+{
+    text.push(b' ')?;
+    push_number(text, pair.datum as usize)?;
+    text.push(b' ')?;
+    let mut buffer = Buffer::new();
+    text.extend_from_slice(buffer.format(pair.power).as_bytes())
+}
+
+/// The line of a word: the product of its pairs, innermost first.
+fn push_word(text: &mut Vec<u8>, pairs: &[Pair]) -> Result<(), AllocError>
+    ensures { OnOk result (text.new.items ≡ text.old.items ++ line_text (spell_location (product_of pairs.now))) }
+{
+    text.push(b'2')?;
+    for pair in pairs {
+        push_pair(text, *pair)?;
+    }
+    text.extend_from_slice(b" 0\n")
+}
+
+/// The lines of the further words.
+fn push_words(text: &mut Vec<u8>, locations: &WrittenLocations<'_>) -> Result<(), AllocError>
+    requires { IsNumbering locations.now }
+    ensures { OnOk result (text.new.items ≡ text.old.items ++ lines_text (map spell_location (map product_of (further_of locations.now)))) }
+{
+    for i in 0..locations.len() {
+        push_word(text, locations.further(i).pairs())?;
+    }
+    Ok(())
+}
+
+/// The section `Locations`: the datums, and then the further words.
+pub(crate) fn push_locations(
+    text: &mut Vec<u8>,
+    locations: &WrittenLocations<'_>,
+) -> Result<(), AllocError>
+    requires numbering { IsNumbering locations.now }
+    requires can { All CanSpellLocation locations.now.section.now }
+    ensures { OnOk result (text.new.items ≡ text.old.items ++ lines_text (location_lines (locations_of locations.now))) }
+{
+    let section = locations.section();
+    push_heading(
+        text,
+        b"Locations",
+        section.datums() as usize + locations.len(),
+    )?;
+    push_datums(text, section)?;
+    push_words(text, locations)?;
+    Ok(())
+}

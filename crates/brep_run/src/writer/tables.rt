@@ -1,0 +1,195 @@
+//! The tables of a file, as they are: each entry on a line.
+ghost use Rattle.brep_file.specs.Sound.{IsSound};
+ghost use Rattle.brep_run.specs.Layout.{section_lines, table_lines};
+ghost use Rattle.brep_tokens.specs.Written.{line_text, lines_text};
+ghost use Rattle.curve_tables.specs.Shapes.{CanSpell2, CanSpell3};
+ghost use Rattle.curve_tables.specs.Spelling.{spelling2, spelling3};
+ghost use Rattle.mesh_tables.specs.Sound.{CanSpellMesh, CanSpellPolygon, CanSpellPolygonOn};
+ghost use Rattle.mesh_tables.specs.Spelling.{spell_mesh, spell_polygon, spell_polygon_on};
+ghost use Rattle.std.specs.Iterator.{Drains, IsFinite};
+ghost use Rattle.surface_tables.specs.Shapes.{CanSpellSurface};
+ghost use Rattle.surface_tables.specs.Spelling.{spell_surface};
+ghost use Rattle.std.specs.Prelude.{◌≡◌, ◌∷◌, ◌++◌, ℕ, All, List, OnOk, if◌then◌else◌};
+
+use super::lines::push_heading;
+use brep_file::File;
+use brep_tokens::TokenText;
+use curve_tables::laws::curves_are_exact;
+use curve_tables::{Curve2, Curve3};
+use location_table::LocationEntry;
+use mesh_tables::laws::{meshes_are_exact, meshes_can_be_spelled};
+use mesh_tables::{Mesh, Polygon3, PolygonOnMesh};
+use std::alloc::AllocError;
+use surface_tables::Surface;
+use surface_tables::laws::surfaces_are_exact;
+
+/// A token, with a space before it unless it is the first of its line.
+fn push_token(text: &mut Vec<u8>, token: &TokenText, first: bool) -> Result<(), AllocError>
+    ensures { OnOk result (text.new.items ≡ text.old.items ++ (if first then token.now else 32 ∷ token.now)) }
+{
+    if !first {
+        text.push(b' ')?;
+    }
+    text.extend_from_slice(token.bytes())
+}
+
+/// Tokens on a line, one space between neighbours.
+fn push_line<I: Iterator<Item = TokenText> + Drop>(
+    text: &mut Vec<u8>,
+    tokens: I,
+) -> Result<(), AllocError>
+    requires can { I.can_next tokens }
+    requires ends { IsFinite (I.remaining tokens) }
+    ensures { OnOk result ((words : List (List ℕ)) × Drains I.next_gives tokens words × (text.new.items ≡ text.old.items ++ line_text words)) }
+{
+    let mut first = true;
+    for token in tokens {
+        push_token(text, &token, first)?;
+        first = false;
+    }
+    text.push(b'\n')?;
+    Ok(())
+}
+
+/// An entry of a table.
+pub(crate) trait TableEntry {
+    // its tokens
+    ghost spelling: { Self → List (List ℕ) };
+
+    // it is well shaped, and its tokens aren't too long
+    ghost can_spell: { Self → Type 0 };
+
+    /// Its tokens on a line.
+    fn push_to(&self, text: &mut Vec<u8>) -> Result<(), AllocError>
+        requires { can_spell self.now }
+        ensures { OnOk result (text.new.items ≡ text.old.items ++ line_text (spelling self.now)) };
+}
+
+impl TableEntry for LocationEntry {
+    ghost use Rattle.location_table.specs.Locations.{spell_location};
+    ghost use Rattle.location_table.specs.Spell.{CanSpellLocation};
+
+    ghost spelling = { spell_location };
+
+    ghost can_spell = { CanSpellLocation };
+
+    fn push_to(&self, text: &mut Vec<u8>) -> Result<(), AllocError> {
+        push_line(text, self.spell())
+    }
+}
+
+impl TableEntry for Curve2 {
+    ghost use Rattle.curve_tables.specs.Shapes.{CanSpell2};
+    ghost use Rattle.curve_tables.specs.Spelling.{spelling2};
+
+    ghost spelling = { spelling2 };
+
+    ghost can_spell = { CanSpell2 };
+
+    fn push_to(&self, text: &mut Vec<u8>) -> Result<(), AllocError> {
+        push_line(text, self.spell())
+    }
+}
+
+impl TableEntry for Curve3 {
+    ghost use Rattle.curve_tables.specs.Shapes.{CanSpell3};
+    ghost use Rattle.curve_tables.specs.Spelling.{spelling3};
+
+    ghost spelling = { spelling3 };
+
+    ghost can_spell = { CanSpell3 };
+
+    fn push_to(&self, text: &mut Vec<u8>) -> Result<(), AllocError> {
+        push_line(text, self.spell())
+    }
+}
+
+impl TableEntry for Polygon3 {
+    ghost use Rattle.mesh_tables.specs.Sound.{CanSpellPolygon};
+    ghost use Rattle.mesh_tables.specs.Spelling.{spell_polygon};
+
+    ghost spelling = { spell_polygon };
+
+    ghost can_spell = { CanSpellPolygon };
+
+    fn push_to(&self, text: &mut Vec<u8>) -> Result<(), AllocError> {
+        push_line(text, self.spell())
+    }
+}
+
+impl TableEntry for PolygonOnMesh {
+    ghost use Rattle.mesh_tables.specs.Sound.{CanSpellPolygonOn};
+    ghost use Rattle.mesh_tables.specs.Spelling.{spell_polygon_on};
+
+    ghost spelling = { spell_polygon_on };
+
+    ghost can_spell = { CanSpellPolygonOn };
+
+    fn push_to(&self, text: &mut Vec<u8>) -> Result<(), AllocError> {
+        push_line(text, self.spell())
+    }
+}
+
+impl TableEntry for Surface {
+    ghost use Rattle.surface_tables.specs.Shapes.{CanSpellSurface};
+    ghost use Rattle.surface_tables.specs.Spelling.{spell_surface};
+
+    ghost spelling = { spell_surface };
+
+    ghost can_spell = { CanSpellSurface };
+
+    fn push_to(&self, text: &mut Vec<u8>) -> Result<(), AllocError> {
+        push_line(text, self.spell())
+    }
+}
+
+impl TableEntry for Mesh {
+    ghost use Rattle.mesh_tables.specs.Sound.{CanSpellMesh};
+    ghost use Rattle.mesh_tables.specs.Spelling.{spell_mesh};
+
+    ghost spelling = { spell_mesh };
+
+    ghost can_spell = { CanSpellMesh };
+
+    fn push_to(&self, text: &mut Vec<u8>) -> Result<(), AllocError> {
+        push_line(text, self.spell())
+    }
+}
+
+/// A section: its heading, and each entry on a line.
+fn push_section<T: TableEntry>(
+    text: &mut Vec<u8>,
+    word: &[u8],
+    entries: &[T],
+) -> Result<(), AllocError>
+    requires { All T.can_spell entries.now }
+    ensures { OnOk result (text.new.items ≡ text.old.items ++ lines_text (section_lines word.now T.spelling entries.now)) }
+{
+    push_heading(text, word, entries.len())?;
+    for entry in entries {
+        entry.push_to(text)?;
+    }
+    Ok(())
+}
+
+/// The sections after the locations and before the records.
+pub(crate) fn push_tables(text: &mut Vec<u8>, file: &File) -> Result<(), AllocError>
+    requires { IsSound file.now }
+    ensures { OnOk result (text.new.items ≡ text.old.items ++ lines_text (table_lines file.now)) }
+{
+    curves_are_exact();
+    surfaces_are_exact();
+    meshes_are_exact();
+    meshes_can_be_spelled();
+    push_section(text, b"Curve2ds", file.curve2s.as_slice())?;
+    push_section(text, b"Curves", file.curves.as_slice())?;
+    push_section(text, b"Polygon3D", file.polygons.as_slice())?;
+    push_section(
+        text,
+        b"PolygonOnTriangulations",
+        file.polygons_on.as_slice(),
+    )?;
+    push_section(text, b"Surfaces", file.surfaces.as_slice())?;
+    push_section(text, b"Triangulations", file.meshes.as_slice())?;
+    Ok(())
+}

@@ -1,0 +1,6 @@
+//! The locations of a file that is written: its datums, and each further word once, in the order in which they first occur.
+#![tactic(auto)]
+
+mod written;
+
+pub use written::WrittenLocations;
