@@ -20,6 +20,10 @@ word_at s place = word_of_place s.section.now place
 abbrev pub number_at : WrittenLocations → List Pair → ℕ
 number_at s w = number_of_word (length (datums_of s.section.now)) (further_of s) w
 
+-- the number of a place's word
+abbrev pub location_number : WrittenLocations → ℕ → ℕ
+location_number s place = number_at s (word_at s place)
+
 -- a place whose word has its number
 pub record HasMet (s : WrittenLocations) (place : ℕ) : Type 0 where
   pub number : slice_index s.numbers.items place ≡ number_at s (word_at s place)

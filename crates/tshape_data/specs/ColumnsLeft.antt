@@ -1,0 +1,45 @@
+-- What the reader of a representation's numbers has still to read.
+use Rattle.std.specs.Prelude.{ℕ, ◌≡◌, ◌<◌, ◌≤◌, List, [], ◌∷◌, length, take, drop}
+use Rattle.brep_tokens.specs.declared.text.Token.{Token}
+use Rattle.entry_readers.specs.Reading.{Read}
+use Rattle.tshape_data.specs.RepReading.{columns_from}
+use Rattle.tshape_data.specs.declared.bounds.Bounds.{Bounds}
+use Rattle.tshape_data.specs.declared.columns.Column.{Column}
+use Rattle.tshape_data.specs.declared.columns.Column.TheVariants.{Entry, Place, Continuity}
+use Rattle.tshape_data.specs.declared.columns_due.ColumnsDue.{ColumnsDue}
+
+-- the place of a continuity word is a byte
+abbrev pub FitsColumn : Column → ℕ → Type 0
+FitsColumn (Entry table) n = Unit {0}
+FitsColumn Place n = Unit {0}
+FitsColumn Continuity n = n < 256
+
+-- each number that was read fits its column
+abbrev pub FitColumns : List Column → List ℕ → Type 0
+FitColumns cs [] = Unit {0}
+FitColumns [] (n ∷ ns) = Unit {0}
+FitColumns (c ∷ cs) (n ∷ ns) = FitsColumn c n × FitColumns cs ns
+
+-- the numbers that were read
+abbrev pub numbers_of : ColumnsDue → List ℕ
+numbers_of r = take r.len r.numbers
+
+-- What is left to read of the numbers for these columns.
+abbrev pub columns_left : Bounds → List Column → ColumnsDue → List Token → Read (List ℕ)
+columns_left b cs r ts = columns_from b (numbers_of r) (drop r.len cs) ts
+
+-- a number is due, and there is room for it
+pub record IsNumberDue (cs : List Column) (r : ColumnsDue) : Type 0 where
+  pub due : r.len < length cs
+  pub few : length cs ≤ 5
+  pub fit : FitColumns cs (numbers_of r)
+
+-- some were read, or all
+pub record HasSomeNumbers (cs : List Column) (r : ColumnsDue) : Type 0 where
+  pub len : r.len ≤ length cs
+  pub fit : FitColumns cs (numbers_of r)
+
+-- all were read
+pub record HasNumbers (cs : List Column) (r : ColumnsDue) : Type 0 where
+  pub len : r.len ≡ length cs
+  pub fit : FitColumns cs (numbers_of r)

@@ -1,0 +1,88 @@
+//! The numbers of a representation, column by column.
+ghost use Rattle.std.specs.Prelude.{◌≡◌, ◌≤◌, ◌+◌, List, OnOk, length, []};
+ghost use Rattle.entry_readers.specs.Takes.{StepsOn};
+ghost use Rattle.tshape_data.specs.Columns.{edge_columns as columns_of_edge, point_columns as columns_of_point};
+ghost use Rattle.tshape_data.specs.ColumnsLeft.{FitColumns, IsNumberDue, columns_left, numbers_of};
+ghost use Rattle.tshape_data.specs.RepReading.{columns_at};
+ghost use Rattle.tshape_data.specs.declared.bounds.Bounds.{Bounds};
+ghost use Rattle.tshape_data.specs.declared.columns.Column.{Column};
+ghost use Rattle.brep_tokens.specs.declared.text.Token.{Token};
+
+use crate::bounds::Bounds;
+use crate::columns::Column::{self, Continuity, Entry, Place};
+use crate::columns::Table::{Curve2s, Curves, Meshes, Polygons, PolygonsOn, Surfaces};
+use crate::due::column_due;
+use crate::forms::{EdgeForm, PointForm};
+use brep_tokens::{ReadStop, Token};
+
+/// What the numbers of a vertex's representation are.
+pub fn point_columns(form: PointForm) -> &'static [Column]
+    ensures columns { result.now ≡ columns_of_point form }
+    ensures few { length result.now ≤ 5 }
+{
+    match form {
+        PointForm::OnCurve => &[Entry(Curves), Place],
+        PointForm::OnCurve2 => &[Entry(Curve2s), Entry(Surfaces), Place],
+        PointForm::OnSurface => &[Entry(Surfaces), Place],
+    }
+}
+
+/// What the numbers of an edge's representation are.
+pub fn edge_columns(form: EdgeForm) -> &'static [Column]
+    ensures columns { result.now ≡ columns_of_edge form }
+    ensures few { length result.now ≤ 5 }
+{
+    match form {
+        EdgeForm::Curve => &[Entry(Curves), Place],
+        EdgeForm::Curve2 => &[Entry(Curve2s), Entry(Surfaces), Place],
+        EdgeForm::Seam => &[
+            Entry(Curve2s),
+            Entry(Curve2s),
+            Continuity,
+            Entry(Surfaces),
+            Place,
+        ],
+        EdgeForm::Joint => &[Continuity, Entry(Surfaces), Place, Entry(Surfaces), Place],
+        EdgeForm::Polygon => &[Entry(Polygons), Place],
+        EdgeForm::PolygonOn => &[Entry(PolygonsOn), Entry(Meshes), Place],
+        EdgeForm::SeamPolygons => &[Entry(PolygonsOn), Entry(PolygonsOn), Entry(Meshes), Place],
+    }
+}
+
+/// The numbers taken so far.
+#[derive(Clone, Copy)]
+pub struct ColumnsDue {
+    pub numbers: [u32; 5],
+    pub len: usize,
+}
+
+impl ColumnsDue {
+    /// None was taken yet.
+    pub fn new() -> ColumnsDue
+        ensures left { (b : Bounds) (cs : List Column) (ts : List Token) → columns_left b cs result ts ≡ columns_at b cs ts }
+        ensures len { result.len ≡ 0 }
+        ensures numbers { numbers_of result ≡ [] }
+    {
+        ColumnsDue {
+            numbers: [0; 5],
+            len: 0,
+        }
+    }
+
+    /// Takes the next one for these columns.
+    pub fn take(&mut self, columns: &[Column], bounds: &Bounds, t: &Token) -> Result<(), ReadStop>
+        requires { IsNumberDue columns.now self.old }
+        ensures step { StepsOn (columns_left bounds.now columns.now self.old) t.now (columns_left bounds.now columns.now self.new) result }
+        ensures len { OnOk result (self.new.len ≡ self.old.len + 1) }
+        ensures fit { OnOk result (FitColumns columns.now (numbers_of self.new)) }
+    {
+        match column_due(bounds, columns[self.len], t) {
+            Err(f) => Err(ReadStop::Fault(f)),
+            Ok(n) => {
+                self.numbers[self.len] = n;
+                self.len += 1;
+                Ok(())
+            }
+        }
+    }
+}

@@ -1,0 +1,53 @@
+//! The data of a vertex. Each method is stated at its own stage.
+ghost use Rattle.std.specs.Prelude.{◌≡◌, ◌<◌};
+ghost use Rattle.entry_readers.specs.Takes.{Takes};
+ghost use Rattle.tshape_data.specs.HeadLeft.{IsDone, IsWaiting, at_stage, head_left};
+ghost use Rattle.tshape_data.specs.PointsLeft.{IsWaiting as PointsWait};
+ghost use Rattle.tshape_data.specs.declared.stage.Stage.TheVariants as stages;
+
+use crate::point_reps_reader::PointRepsReader;
+use crate::reader::{HeadReader, room};
+use crate::stage::{Fields, Stage};
+use brep_tokens::{Progress, ReadStop, Token};
+
+impl HeadReader {
+    /// The tolerance or a coordinate of a vertex.
+    pub(crate) fn take_vertex_text(&mut self, t: &Token) -> Result<Progress, ReadStop>
+        requires { 0 < self.old.texts.due }
+        ensures { Takes (at_stage stages.VertexTexts self.old) t.now (head_left self.new) (IsWaiting self.new) (IsDone self.new) result }
+    {
+        match self.texts.take(t) {
+            Err(e) => Err(e),
+            Ok(()) => {
+                if self.texts.due == 0 {
+                    self.points = PointRepsReader::new(self.alloc, self.bounds, room(&self.bounds));
+                    self.stage = Stage::Points;
+                    Ok(Progress::More)
+                } else {
+                    self.stage = Stage::VertexTexts;
+                    Ok(Progress::More)
+                }
+            }
+        }
+    }
+
+    /// A token of a vertex's representations.
+    pub(crate) fn take_point(&mut self, t: &Token) -> Result<Progress, ReadStop>
+        requires { PointsWait self.old.points }
+        ensures { Takes (at_stage stages.Points self.old) t.now (head_left self.new) (IsWaiting self.new) (IsDone self.new) result }
+    {
+        match self.points.take(t) {
+            Err(e) => Err(e),
+            Ok(Progress::More) => {
+                self.stage = Stage::Points;
+                Ok(Progress::More)
+            }
+            Ok(Progress::Whole) => {
+                self.stage = Stage::Flags {
+                    fields: Fields::Vertex,
+                };
+                Ok(Progress::More)
+            }
+        }
+    }
+}

@@ -1,0 +1,4 @@
+pub mod Digits
+pub mod PlaceLemmas
+pub mod LineLemmas
+pub mod Writable

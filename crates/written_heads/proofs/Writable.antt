@@ -1,0 +1,95 @@
+-- The data of a sound head, whose locations were met, can be written.
+use Rattle.std.proofs.Common.{◌≤◌, subst, get_or}
+use Rattle.std.specs.Prelude.{ℕ, List, [], All, length}
+use Rattle.std.proofs.lemmas.List.Elements.{All-from_recursion}
+use Rattle.orientation.specs.declared.kind.Kind.{Kind}
+use Rattle.orientation.specs.declared.kind.Kind.TheVariants.{Ve, Ed, Wi, Fa, Sh, So, CS, Co}
+use Rattle.tshape_data.specs.Columns.{edge_columns}
+use Rattle.tshape_data.specs.Places.{places_of}
+use Rattle.tshape_data.specs.Reps.{form_of_edge, numbers_of_edge}
+use Rattle.tshape_data.specs.Sound.{AreInColumns, IsSoundEdge, IsSoundEdgeRep, IsSoundFace, IsSoundPayload, IsSoundPoint, IsSoundVertex}
+use Rattle.tshape_data.specs.declared.bounds.Bounds.{Bounds}
+use Rattle.tshape_data.specs.declared.reps.EdgeRep.{EdgeRep}
+use Rattle.tshape_data.specs.declared.reps.EdgeRep.TheVariants as edge_reps
+use Rattle.tshape_data.specs.declared.head.VertexData.{VertexData}
+use Rattle.tshape_data.specs.declared.head.EdgeData.{EdgeData}
+use Rattle.tshape_data.specs.declared.head.FaceData.{FaceData}
+use Rattle.tshape_data.specs.declared.head.Payload.{Payload}
+use Rattle.tshape_data.specs.declared.head.Payload.TheVariants.{Vertex, Edge, Face, Nothing}
+use Rattle.written_locations.specs.declared.written.WrittenLocations.{WrittenLocations}
+use Rattle.written_locations.specs.Met.{HasMet}
+use Rattle.written_heads.specs.Named.{edge_places, point_places}
+use Rattle.written_heads.specs.Words.{IsContinuous, IsWritablePayload, IsWritten}
+use Rattle.written_heads.proofs.PlaceLemmas.{all_within, first, in_edge, in_face, in_vertex}
+
+-- ---- the data of a kind
+module _ (b : Bounds) (version : ℕ) where
+  pub sound-vertex : (k : Kind) (d : VertexData) → IsSoundPayload b version k (Vertex d) → IsSoundVertex b d
+  sound-vertex Ve d h = h
+  sound-vertex Ed d h = absurd h
+  sound-vertex Wi d h = absurd h
+  sound-vertex Fa d h = absurd h
+  sound-vertex Sh d h = absurd h
+  sound-vertex So d h = absurd h
+  sound-vertex CS d h = absurd h
+  sound-vertex Co d h = absurd h
+
+  pub sound-edge : (k : Kind) (d : EdgeData) → IsSoundPayload b version k (Edge d) → IsSoundEdge b version d
+  sound-edge Ve d h = absurd h
+  sound-edge Ed d h = h
+  sound-edge Wi d h = absurd h
+  sound-edge Fa d h = absurd h
+  sound-edge Sh d h = absurd h
+  sound-edge So d h = absurd h
+  sound-edge CS d h = absurd h
+  sound-edge Co d h = absurd h
+
+  pub sound-face : (k : Kind) (d : FaceData) → IsSoundPayload b version k (Face d) → IsSoundFace b d
+  sound-face Ve d h = absurd h
+  sound-face Ed d h = absurd h
+  sound-face Wi d h = absurd h
+  sound-face Fa d h = h
+  sound-face Sh d h = absurd h
+  sound-face So d h = absurd h
+  sound-face CS d h = absurd h
+  sound-face Co d h = absurd h
+
+  continuous : (r : EdgeRep) → AreInColumns b (edge_columns (form_of_edge r)) (numbers_of_edge r) → IsContinuous r
+  continuous (edge_reps.Curve curve location texts) h = tt
+  continuous (edge_reps.Curve2 curve2 surface location texts) h = tt
+  continuous (edge_reps.Seam a c continuity surface location texts) h = h.1.1.0
+  continuous (edge_reps.Joint continuity a a_location c c_location) h = h.0
+  continuous (edge_reps.Polygon polygon location) h = tt
+  continuous (edge_reps.PolygonOn polygon_on mesh location) h = tt
+  continuous (edge_reps.SeamPolygons a c mesh location) h = tt
+
+  module _ (s : WrittenLocations) where
+    both : (places : List ℕ) → All (λ place. place ≤ length s.section.now) places → All (HasMet s) places → All (IsWritten s) places
+    both places within met k d lt = record { within = within k d lt; met = met k d lt }
+
+    vertex : (d : VertexData) → IsSoundVertex b d → All (IsWritten s) (places_of version (Vertex d)) → IsWritablePayload s version (Vertex d)
+    vertex d sound places =
+        let each = all_within (IsWritten s) point_places d.points (subst (All (IsWritten s)) (in_vertex version d) places) in
+        let all = All-from_recursion (IsSoundPoint b) d.points sound.points in
+        (sound.decimals.0, (λ k p lt. record { texts = (all k p lt).decimals.0; places = each k p lt }))
+
+    edge : (d : EdgeData) → IsSoundEdge b version d → All (IsWritten s) (places_of version (Edge d)) → IsWritablePayload s version (Edge d)
+    edge d sound places =
+        let each = all_within (IsWritten s) edge_places d.reps (subst (All (IsWritten s)) (in_edge version d) places) in
+        let all = All-from_recursion (IsSoundEdgeRep b version) d.reps sound.reps in (
+          sound.decimals.0,
+          (λ k r lt. record { texts = (all k r lt).decimals.0; continuity = continuous (get_or d.reps k r) (all k r lt).numbers; places = each k r lt }),
+        )
+
+    face : (d : FaceData) → IsSoundFace b d → All (IsWritten s) (places_of version (Face d)) → IsWritablePayload s version (Face d)
+    face d sound places = (sound.decimals.0, first (IsWritten s) d.location [] (subst (All (IsWritten s)) (in_face version d) places))
+
+    writable-each : (k : Kind) (p : Payload) → IsSoundPayload b version k p → All (IsWritten s) (places_of version p) → IsWritablePayload s version p
+    writable-each k (Vertex d) h places = vertex d (sound-vertex k d h) places
+    writable-each k (Edge d) h places = edge d (sound-edge k d h) places
+    writable-each k (Face d) h places = face d (sound-face k d h) places
+    writable-each k Nothing h places = tt
+
+    pub writable : (k : Kind) (p : Payload) → IsSoundPayload b version k p → All (λ place. place ≤ length s.section.now) (places_of version p) → All (HasMet s) (places_of version p) →
+        IsWritablePayload s version p
+    writable k p h within met = writable-each k p h (both (places_of version p) within met)

@@ -1,0 +1,70 @@
+-- The words of lines, each with a space before it, and the data whose lines can be written.
+use Rattle.std.specs.Prelude.{◌≡◌, ◌<◌, ◌≤◌, ◌+◌, ℕ, List, ◌∷◌, ◌++◌, All, length, take, drop}
+use Rattle.std.specs.Fmt.{decimal}
+use Rattle.std.specs.List.{flat_map}
+use Rattle.brep_tokens.specs.Written.{line_text, lines_text}
+use Rattle.tshape_data.specs.Columns.{edge_number, edge_texts, second_texts}
+use Rattle.tshape_data.specs.Lines.{number_words, uv_lines}
+use Rattle.tshape_data.specs.Parts.{texts_in}
+use Rattle.tshape_data.specs.Reps.{form_of_edge, form_of_point, texts_of_edge, texts_of_point}
+use Rattle.tshape_data.specs.declared.reps.EdgeRep.{EdgeRep}
+use Rattle.tshape_data.specs.declared.reps.EdgeRep.TheVariants as edge_reps
+use Rattle.tshape_data.specs.declared.reps.PointRep.{PointRep}
+use Rattle.tshape_data.specs.declared.head.Payload.{Payload}
+use Rattle.tshape_data.specs.declared.head.Payload.TheVariants.{Vertex, Edge, Face, Nothing}
+use Rattle.written_heads.specs.Named.{edge_places, point_places}
+use Rattle.written_locations.specs.declared.written.WrittenLocations.{WrittenLocations}
+use Rattle.written_locations.specs.Met.{HasMet}
+
+-- a space before each word
+abbrev pub spaced : List (List ℕ) → List ℕ
+spaced words = flat_map (λ (word : List ℕ). 32 ∷ word) words
+
+-- a space before each number
+abbrev pub entries_text : List ℕ → List ℕ
+entries_text entries = flat_map (λ (n : ℕ). 32 ∷ decimal n) entries
+
+-- a place of the section that was met
+pub record IsWritten (s : WrittenLocations) (place : ℕ) : Type 0 where
+  pub within : place ≤ length s.section.now
+  pub met : HasMet s place
+
+-- the places of continuity words are among those of the seven
+abbrev pub IsContinuous : EdgeRep → Type 0
+IsContinuous (edge_reps.Curve curve location texts) = Unit {0}
+IsContinuous (edge_reps.Curve2 curve2 surface location texts) = Unit {0}
+IsContinuous (edge_reps.Seam first second continuity surface location texts) = continuity < 7
+IsContinuous (edge_reps.Joint continuity first first_location second second_location) = continuity < 7
+IsContinuous (edge_reps.Polygon polygon location) = Unit {0}
+IsContinuous (edge_reps.PolygonOn polygon_on mesh location) = Unit {0}
+IsContinuous (edge_reps.SeamPolygons first second mesh location) = Unit {0}
+
+-- a representation of an edge with as many decimals as its form has, whose locations were met
+pub record IsWritableEdge (s : WrittenLocations) (version : ℕ) (r : EdgeRep) : Type 0 where
+  pub texts : length (texts_of_edge r) ≡ edge_texts version (form_of_edge r)
+  pub continuity : IsContinuous r
+  pub places : All (IsWritten s) (edge_places r)
+
+-- and one of a vertex
+pub record IsWritablePoint (s : WrittenLocations) (p : PointRep) : Type 0 where
+  pub texts : length (texts_of_point p) ≡ 1 + second_texts (form_of_point p)
+  pub places : All (IsWritten s) (point_places p)
+
+-- the number of the form, and the words of the other numbers
+abbrev pub numbers_text : EdgeRep → List ℕ
+numbers_text r = decimal (edge_number (form_of_edge r)) ++ spaced (number_words r)
+
+-- the parameters and the end of the line, and the line of the UV points
+abbrev pub parameters_text : ℕ → EdgeRep → List ℕ
+parameters_text version r = spaced (take 2 (texts_in version r)) ++ 10 ∷ lines_text (uv_lines (drop 2 (texts_in version r)))
+
+-- the lines of a vertex's tolerance and of its coordinates
+unfoldable pub vertex_texts : List (List ℕ) → List ℕ
+vertex_texts texts = line_text (take 1 texts) ++ line_text (drop 1 texts)
+
+-- data with as many decimals as they have in a version, whose locations were met
+abbrev pub IsWritablePayload : WrittenLocations → ℕ → Payload → Type 0
+IsWritablePayload s version (Vertex d) = (length d.texts ≡ 4) × All (IsWritablePoint s) d.points
+IsWritablePayload s version (Edge d) = (length d.tolerance ≡ 1) × All (IsWritableEdge s version) d.reps
+IsWritablePayload s version (Face d) = (length d.tolerance ≡ 1) × IsWritten s d.location
+IsWritablePayload s version Nothing = Unit {0}
