@@ -22,6 +22,10 @@ spelled_ok code t ts rest (Some y) x e =
     (ap (λ q. Some q.0) p, ap (λ q. q.1) p)
 spelled_ok code t ts rest None x e = absurd cc
 
+pub chosen : {A : Type 0} (b : Bool) (x : A) (o : Option A) (y : A) (P : A → Type 0) → (if b then Some x else o) ≡ Some y → (b ≡ true → P x) → (o ≡ Some y → P y) → P y
+chosen true x o y P e first others = subst P (some_is e) (first refl)
+chosen false x o y P e first others = others e
+
 pub bind_assoc : {A B C : Type 0} (r : Result A Refusal) (f : A → Result B Refusal) (g : B → Result C Refusal) → ((r >>= f) >>= g) ≡ (r >>= λ x. f x >>= g)
 bind_assoc (Ok x) f g = refl
 bind_assoc (Err d) f g = refl

@@ -1,6 +1,5 @@
 pub mod Steps
 pub mod Basics
-pub mod HeadLaws
 pub mod SectionLaws
 pub mod LocationLaws
 pub mod UseLaws
@@ -10,6 +9,10 @@ pub mod FileLaws
 pub mod SoundLaws
 pub mod SoundAgain
 pub mod TextLaws
+pub mod OneFile
+pub mod ReadingLaws
+pub mod EntryCount
+pub mod UsesOpen
 pub mod Pulling
 pub mod RecordCount
 pub mod WholeText

@@ -6,6 +6,7 @@ use Rattle.brep_tokens.specs.declared.fault.ReadStop.{ReadStop}
 use Rattle.brep_tokens.specs.declared.fault.ReadStop.TheVariants as stops
 use Rattle.brep_tokens.specs.declared.text.Token.{Token}
 use Rattle.entry_readers.specs.Reading.{Read, more, fault, ◌>>=◌}
+use Rattle.entry_readers.specs.Takes.{Stops}
 use Rattle.brep_file.specs.Giving.{front, missing_at, GoesTo, Fails, Gives}
 
 pub same_missing : (old new : Scan) → GoesTo old new → missing_at new ≡ missing_at old
@@ -64,3 +65,9 @@ then_gives read K old mid new x (Err d) e goes h = rw e (fails_later old mid (K 
 pub same_gives : {B : Type 0} (read other : List Token → Read B) (old new : Scan) (r : Result B ReadStop) → read (front old) ≡ other (front old) → Gives (λ y. y) other old new r → Gives (λ y. y) read old new r
 same_gives read other old new (Ok y) e h = (e ∙ h.0, h.1)
 same_gives {B = B} read other old new (Err d) e h = subst (λ (r : Read B). Fails old r d) (sym e) h
+
+-- a reader stops at the next token
+pub stop_fails : {A : Type 0} (left : List Token → Read A) (first s next : Scan) (t : Token) (start : Read A) (e : ReadStop) → left (front s) ≡ start → front s ≡ t ∷ front next → Stops left t e → Fails first start e
+stop_fails left first s next t start stops.NoMemory same here stop = tt
+stop_fails {A = A} left first s next t start (stops.Fault f) same here stop =
+    subst (λ (r : Read A). Fails first r (stops.Fault f)) (sym (stop (front next)) ∙ sym (ap left here) ∙ same) refl

@@ -6,20 +6,38 @@ use Rattle.std.proofs.lemmas.List.{length-append}
 use Rattle.std.proofs.lemmas.List.Elements.{recursion_from_All}
 use Rattle.orientation.specs.declared.kind.Kind.{Kind}
 use Rattle.orientation.specs.Laws.{SignsAndNamesTell}
+use Rattle.tshape_data.specs.RepReading.{most_reps}
+use Rattle.tshape_data.specs.Sound.{rep_count}
 use Rattle.expansion_laws.specs.Measures.{depth}
 use Rattle.brep_file.specs.declared.uses.FileUse.{FileUse}
 use Rattle.brep_file.specs.declared.records.Record.{Record}
 use Rattle.brep_file.specs.declared.file.File.{File}
 use Rattle.brep_file.specs.PlainRecords.{record_of}
 use Rattle.brep_file.specs.Seen.{Seen}
-use Rattle.brep_file.specs.Sound.{Limits, IsWithin, IsUse, IsSound}
+use Rattle.brep_file.specs.Sound.{Limits, IsWithin, IsUse, IsSound, reps_in, sizes_of}
 use Rattle.brep_file.specs.RecordReading.{Bounds, Gathered, none_gathered, SoFar, nothing_read}
 use Rattle.brep_file.proofs.UseLaws.{seen_depth, FitsUse, with_use, with_uses}
 use Rattle.brep_file.proofs.RecordLaws.{FitsRecord, FitAll, after, after-uses}
-use Rattle.brep_file.proofs.FileLaws.{FitFile, FitRecords, FitsEnd}
+use Rattle.brep_file.proofs.FileLaws.{FitFile, FitRecords, FitsEnd, bounds_of}
 use Rattle.brep_file.proofs.LocationLaws.{FitLocations}
 use Rattle.brep_file.proofs.DepthLaws.{get_left, get_joint, tree_in, tree_kept, Tells, seen_of, tells_nothing, known, known_depth, IsNamed, new_depth, tells_more}
 use Rattle.brep_file.proofs.SoundLaws.{is_below_true, gathered_least}
+
+-- the counts are within these limits, and the records have at most so many representations
+pub record IsCounted (most : ℕ) (limits : Limits) (f : File) : Type 0 where
+  pub locations : length f.locations ≤ limits.entries
+  pub curve2s : length f.curve2s ≤ limits.entries
+  pub curves : length f.curves ≤ limits.entries
+  pub polygons : length f.polygons ≤ limits.entries
+  pub polygons_on : length f.polygons_on ≤ limits.entries
+  pub surfaces : length f.surfaces ≤ limits.entries
+  pub meshes : length f.meshes ≤ limits.entries
+  pub records : length f.records ≤ limits.records
+  pub uses : length (flat_map (λ r. r.uses) f.records) ≤ limits.uses
+  pub reps : reps_in f.records ≤ most
+
+pub counted : (limits : Limits) (f : File) → IsWithin limits f → IsCounted most_reps limits f
+counted limits f w = record { locations = w.locations; curve2s = w.curve2s; curves = w.curves; polygons = w.polygons; polygons_on = w.polygons_on; surfaces = w.surfaces; meshes = w.meshes; records = w.records; uses = w.uses; reps = w.reps }
 
 module _ (names : SignsAndNamesTell) (f : File) (sound : IsSound f) where
   abbrev n : ℕ
@@ -55,13 +73,13 @@ module _ (names : SignsAndNamesTell) (f : File) (sound : IsSound f) where
         let least = gathered_least n seen us (with_use n seen g u) in
         (use_fits u are.0 (omega (arith, least, shallow)), uses_fit us (with_use n seen g u) are.1 shallow)
 
-  module _ (uses : ℕ) where
+  module _ (reps uses : ℕ) where
     abbrev b : Bounds
-    b = record { locations = length f.locations; records = n; uses = uses }
+    b = bounds_of f.version (sizes_of f) n uses
 
-    record_fits : (k : ℕ) (rs rest : List Record) (s : SoFar) (r : Record) → rs ++ r ∷ rest ≡ f.records → length rest ≡ k → (tells : Tells f.locations n (suc k) rs s.seen) → s.uses + length r.uses ≤ uses
-        → FitsRecord b s r × Tells f.locations n k (rs ++ r ∷ []) (after n s r).seen
-    record_fits k rs rest s r all few_left tells few =
+    record_fits : (k : ℕ) (rs rest : List Record) (s : SoFar) (r : Record) → rs ++ r ∷ rest ≡ f.records → length rest ≡ k → (tells : Tells f.locations n (suc k) rs s.seen) → s.uses + length r.uses ≤ uses → s.reps + rep_count r.head.payload ≤ reps
+        → FitsRecord reps b s r × Tells f.locations n k (rs ++ r ∷ []) (after n s r).seen
+    record_fits k rs rest s r all few_left tells few few_reps =
         let place : n - suc k ≡ length rs = omega (arith, tells.count) in
         let there : record_of f (suc k) ≡ Some r = ap (slice_get f.records) place ∙ ap (λ (xs : List Record). slice_get xs (length rs)) (sym all) ∙ get_joint rs rest r in
         let within : suc k ≤ n = omega (arith, tells.count) in
@@ -76,26 +94,27 @@ module _ (names : SignsAndNamesTell) (f : File) (sound : IsSound f) where
         let new = new_depth f.locations n k rs s.seen tells r are in
         let shallow : (with_uses n s.seen none_gathered r.uses).depth < 512 = omega (arith, deep, ap depth kept, new) in (
           record {
-            shaped = is.shaped;
+            sound = is.head;
             uses = uses_fit (suc k) r.head.kind rs (r ∷ rest) s.seen all tells r.uses none_gathered all_uses shallow;
             few = few;
+            few_reps = few_reps;
           },
           tells_more f.locations n k rs s.seen tells r are,
         )
 
-    all_fit : (rest rs : List Record) (s : SoFar) → rs ++ rest ≡ f.records → Tells f.locations n (length rest) rs s.seen → s.uses + length (flat_map (λ r. r.uses) rest) ≤ uses → FitAll b s rest
-    all_fit [] rs s all tells few = tt
-    all_fit (r ∷ rest) rs s all tells few =
+    all_fit : (rest rs : List Record) (s : SoFar) → rs ++ rest ≡ f.records → Tells f.locations n (length rest) rs s.seen → s.uses + length (flat_map (λ r. r.uses) rest) ≤ uses → s.reps + reps_in rest ≤ reps → FitAll reps b s rest
+    all_fit [] rs s all tells few few_reps = tt
+    all_fit (r ∷ rest) rs s all tells few few_reps =
         let both = length-append r.uses (flat_map (λ r. r.uses) rest) in
-        let one = record_fits (length rest) rs rest s r all refl tells (omega (arith, few, both)) in
-        (one.0, all_fit rest (rs ++ r ∷ []) (after n s r) (append_assoc rs (r ∷ []) rest ∙ all) one.1 (omega (arith, few, both, after-uses n s r)))
+        let one = record_fits (length rest) rs rest s r all refl tells (omega (arith, few, both)) (omega (arith, few_reps)) in
+        (one.0, all_fit rest (rs ++ r ∷ []) (after n s r) (append_assoc rs (r ∷ []) rest ∙ all) one.1 (omega (arith, few, both, after-uses n s r)) (omega (arith, few_reps)))
 
-  pub fits_from : (limits : Limits) → IsWithin limits f → FitFile limits f
-  fits_from limits within =
-      let of_records : FitRecords limits f = record {
+  pub fits_from : (reps : ℕ) (limits : Limits) → IsCounted reps limits f → FitFile reps limits f
+  fits_from reps limits within =
+      let of_records : FitRecords reps limits f = record {
         countable = sound.countable;
         within = within.records;
-        fit = all_fit limits.uses f.records [] nothing_read refl (tells_nothing f.locations n) (omega (arith, within.uses));
+        fit = all_fit reps limits.uses f.records [] nothing_read refl (tells_nothing f.locations n) (omega (arith, within.uses)) (omega (arith, within.reps));
       } in
       let root : FitsEnd f = record {
         named = sound.root;

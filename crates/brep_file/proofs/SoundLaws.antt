@@ -10,19 +10,20 @@ use Rattle.orientation.specs.declared.kind.Kind.{Kind}
 use Rattle.orientation.specs.declared.kind.Kind.TheVariants.{Co}
 use Rattle.orientation.specs.Kinds.{rank_of, kind_eq, IsBelow, is_below}
 use Rattle.orientation.specs.Laws.{SignsAndNamesTell}
+use Rattle.tshape_data.specs.RepReading.{most_reps}
 use Rattle.expansion_laws.specs.Trees.{Tree}
 use Rattle.expansion_laws.specs.Measures.{depth}
 use Rattle.brep_file.specs.declared.uses.FileUse.{FileUse}
 use Rattle.brep_file.specs.declared.records.Record.{Record}
 use Rattle.brep_file.specs.declared.file.File.{File}
 use Rattle.brep_file.specs.Seen.{Seen}
-use Rattle.brep_file.specs.Sound.{Limits, IsWithin, IsUse, IsRecord, IsSound, AreSoundTables}
+use Rattle.brep_file.specs.Sound.{Limits, IsWithin, IsUse, IsRecord, IsSound, AreSoundTables, reps_in, sizes_of}
 use Rattle.brep_file.specs.Spelling.{spell_file}
 use Rattle.brep_file.specs.RecordReading.{Bounds, Gathered, none_gathered, SoFar, nothing_read}
 use Rattle.brep_file.proofs.Basics.{some_is}
 use Rattle.brep_file.proofs.UseLaws.{seen_depth, FitsUse, with_use, with_uses}
 use Rattle.brep_file.proofs.RecordLaws.{FitsRecord, FitAll, after, after-uses}
-use Rattle.brep_file.proofs.FileLaws.{FitFile}
+use Rattle.brep_file.proofs.FileLaws.{FitFile, bounds_of}
 use Rattle.brep_file.proofs.DepthLaws.{get_left, pushed, tree_in, tree_older, Tells, tells_nothing, known, named, IsNamed, new_depth, tells_more}
 
 -- ---- kinds in order
@@ -99,35 +100,41 @@ module _ (names : SignsAndNamesTell) (f : File) where
     records : (number : ℕ) (r : Record) → k < number → number ≤ n → slice_get rs (n - number) ≡ Some r → IsRecord f number r
     depths : (number : ℕ) (r : Record) → k < number → number ≤ n → slice_get rs (n - number) ≡ Some r → depth (tree_in f.locations k rs number) ≤ 512
 
-  module _ (uses : ℕ) where
+  module _ (reps uses : ℕ) where
     abbrev b : Bounds
-    b = record { locations = length f.locations; records = n; uses = uses }
+    b = bounds_of f.version (sizes_of f) n uses
 
-    one_sound : (k : ℕ) (rs rest : List Record) (s : SoFar) (r : Record) → rs ++ r ∷ rest ≡ f.records → AreSound (suc k) rs s.seen → FitsRecord b s r → AreSound k (rs ++ r ∷ []) (after n s r).seen
+    one_sound : (k : ℕ) (rs rest : List Record) (s : SoFar) (r : Record) → rs ++ r ∷ rest ≡ f.records → AreSound (suc k) rs s.seen → FitsRecord reps b s r → AreSound k (rs ++ r ∷ []) (after n s r).seen
     one_sound k rs rest s r all sound fits =
         let are = named_of (suc k) r.head.kind rs s.seen sound.tells r.uses fits.uses in
         let shallow = gathered_shallow (length f.locations) n r.head.kind s.seen r.uses none_gathered (omega arith) fits.uses in
         record {
           tells = tells_more f.locations n k rs s.seen sound.tells r are;
           records = pushed (IsRecord f) n k rs r sound.tells.count sound.records
-              (record { shaped = fits.shaped; uses = All-from_recursion (IsUse f (suc k) r.head.kind) r.uses (uses_sound (suc k) r.head.kind rs (r ∷ rest) s.seen all sound.tells r.uses fits.uses) });
+              (record { head = fits.sound; uses = All-from_recursion (IsUse f (suc k) r.head.kind) r.uses (uses_sound (suc k) r.head.kind rs (r ∷ rest) s.seen all sound.tells r.uses fits.uses) });
           depths = pushed (λ number _. depth (tree_in f.locations k (rs ++ r ∷ []) number) ≤ 512) n k rs r sound.tells.count
               (λ number x above within e. subst (λ (t : Tree). depth t ≤ 512) (sym (tree_older f.locations k rs r number above)) (sound.depths number x above within e))
               (let d = new_depth f.locations n k rs s.seen sound.tells r are in omega (arith, d, shallow));
         }
 
-    all_sound : (rest rs : List Record) (s : SoFar) → rs ++ rest ≡ f.records → AreSound (length rest) rs s.seen → FitAll b s rest → (seen : List Seen) × AreSound 0 f.records seen
+    all_sound : (rest rs : List Record) (s : SoFar) → rs ++ rest ≡ f.records → AreSound (length rest) rs s.seen → FitAll reps b s rest → (seen : List Seen) × AreSound 0 f.records seen
     all_sound [] rs s all sound fit = (s.seen, subst (λ (xs : List Record). AreSound 0 xs s.seen) (sym (append-nil rs) ∙ all) sound)
     all_sound (r ∷ rest) rs s all sound fit = all_sound rest (rs ++ r ∷ []) (after n s r) (append_assoc rs (r ∷ []) rest ∙ all) (one_sound (length rest) rs rest s r all sound fit.0) fit.1
 
-    uses_within : (rs : List Record) (s : SoFar) → s.uses ≤ uses → FitAll b s rs → s.uses + length (flat_map (λ r. r.uses) rs) ≤ uses
+    uses_within : (rs : List Record) (s : SoFar) → s.uses ≤ uses → FitAll reps b s rs → s.uses + length (flat_map (λ r. r.uses) rs) ≤ uses
     uses_within [] s within fit = omega (arith, within)
     uses_within (r ∷ rs) s within fit =
         let one = after-uses n s r in
         let others = uses_within rs (after n s r) (omega (arith, one, within, fit.0.few)) fit.1 in
         omega (arith, one, others, length-append r.uses (flat_map (λ r. r.uses) rs))
 
-  module _ (limits : Limits) (fits : FitFile limits f) where
+    reps_within : (rs : List Record) (s : SoFar) → s.reps ≤ reps → FitAll reps b s rs → s.reps + reps_in rs ≤ reps
+    reps_within [] s within fit = omega (arith, within)
+    reps_within (r ∷ rs) s within fit =
+        let others = reps_within rs (after n s r) fit.0.few_reps fit.1 in
+        omega (arith, others)
+
+  module _ (limits : Limits) (fits : FitFile most_reps limits f) where
     abbrev tables : AreSoundTables f
     tables = record {
       countable = fits.0.countable;
@@ -140,17 +147,17 @@ module _ (names : SignsAndNamesTell) (f : File) where
       meshes = fits.1.1.1.1.1.1.0.0;
     }
 
-    pub sound_from : f.version ≡ 1 → AllByRecursion (λ text. length text ≤ 128) (spell_file f) → IsSound f
-    sound_from one short =
+    pub sound_from : (f.version ≡ 1) ⊎ (f.version ≡ 2) → AllByRecursion (λ text. length text ≤ 128) (spell_file f) → IsSound f
+    sound_from version short =
         let of_records = fits.1.1.1.1.1.1.1.0 in
         let root = fits.1.1.1.1.1.1.1.1 in
-        let found = all_sound limits.uses f.records [] nothing_read refl (record {
+        let found = all_sound most_reps limits.uses f.records [] nothing_read refl (record {
           tells = tells_nothing f.locations n;
           records = λ number r above within e. absurd (omega (arith, above, within));
           depths = λ number r above within e. absurd (omega (arith, above, within));
         }) of_records.fit in
         record {
-          version = one;
+          version = version;
           tokens = short;
           tables = tables;
           countable = of_records.countable;
@@ -170,5 +177,6 @@ module _ (names : SignsAndNamesTell) (f : File) where
       surfaces = fits.1.1.1.1.1.0.1;
       meshes = fits.1.1.1.1.1.1.0.1;
       records = fits.1.1.1.1.1.1.1.0.within;
-      uses = omega (arith, uses_within limits.uses f.records nothing_read (omega arith) fits.1.1.1.1.1.1.1.0.fit);
+      uses = omega (arith, uses_within most_reps limits.uses f.records nothing_read (omega arith) fits.1.1.1.1.1.1.1.0.fit);
+      reps = omega (arith, reps_within most_reps limits.uses f.records nothing_read (omega arith) fits.1.1.1.1.1.1.1.0.fit);
     }

@@ -1,11 +1,11 @@
 -- A text is read exactly as it is spelled.
-use Rattle.std.proofs.Common.{◌≡◌, ℕ, ◌+◌, ◌≤◌, ◌==◌, nat_le, true, false, inl, inr, Bool, if◌then◌else◌, List, [], ◌∷◌, ◌++◌, length, map, Option, Some, None, Result, Ok, Err, refl, sym, ap, subst, ◌∙◌, append-nil, arith}
+use Rattle.std.proofs.Common.{◌≡◌, ℕ, ◌≤◌, nat_le, true, false, inl, inr, Bool, if◌then◌else◌, List, [], ◌∷◌, ◌++◌, length, map, Option, Some, None, Result, Ok, Err, refl, sym, ap, subst, ◌∙◌, append-nil, arith}
 use Rattle.std.specs.Prelude.{codes, nat_eq}
-use Rattle.std.specs.List.{flat_map, AllByRecursion}
+use Rattle.std.specs.List.{AllByRecursion}
 use Rattle.std.specs.Cmp.Lexicographic.{pointwise}
-use Rattle.std.proofs.lemmas.Bool.{leb-true, le-leb, eqb-true}
+use Rattle.std.proofs.lemmas.Bool.{leb-true, le-leb}
 use Rattle.std.proofs.lemmas.Slice.Eq.{bytes_eq-Decides}
-use Rattle.brep_tokens.specs.Laws.{FormsAreExact}
+use Rattle.brep_tokens.specs.Laws.{FormsAreExact, ScannerGivesTokens}
 use Rattle.brep_tokens.specs.Tokens.{Word, Head, missing, unread, version, head_at, words_at, after_head, tokens_of}
 use Rattle.brep_tokens.specs.declared.text.Token.{Token}
 use Rattle.brep_tokens.specs.declared.fault.ReadFault.{ReadFault}
@@ -16,23 +16,25 @@ use Rattle.location_table.specs.Laws.{LocationsAreExact}
 use Rattle.curve_tables.specs.Laws.{CurvesAreExact}
 use Rattle.surface_tables.specs.Laws.{SurfacesAreExact}
 use Rattle.mesh_tables.specs.Laws.{MeshesAreExact}
+use Rattle.tshape_data.specs.Laws.{HeadsAreExact}
+use Rattle.tshape_data.specs.RepReading.{most_reps}
 use Rattle.brep_file.specs.declared.file.File.{File}
 use Rattle.brep_file.specs.Sound.{Limits, IsWithin, IsSound}
 use Rattle.brep_file.specs.Spelling.{spell_file}
 use Rattle.brep_file.specs.Reads.{IsSpelling, Spells, texts_of}
-use Rattle.brep_file.specs.ReadingLaws.{ReadingIsExact}
+use Rattle.brep_file.specs.RecordLeft.{IsVersionRead}
 use Rattle.brep_file.specs.FileReading.{begun, from_locations, short_front, too_long, ended, tail_fault, after_zero, closed, finished, read_words, read_head, read_text}
 use Rattle.brep_file.proofs.Basics.{some_is}
 use Rattle.brep_file.proofs.FileLaws.{file_takes, file_again}
 use Rattle.brep_file.proofs.SoundLaws.{sound_from, within_from}
-use Rattle.brep_file.proofs.SoundAgain.{fits_from}
+use Rattle.brep_file.proofs.SoundAgain.{counted, fits_from}
 
 -- ---- tokens of at most 128 bytes
 
-abbrev AreShort : List (List ℕ) → Type 0
+abbrev pub AreShort : List (List ℕ) → Type 0
 AreShort texts = AllByRecursion (λ text. length text ≤ 128) texts
 
-abbrev token_texts : List Token → List (List ℕ)
+abbrev pub token_texts : List Token → List (List ℕ)
 token_texts ts = map (λ t. t.text) ts
 
 guard_none : (b : Bool) (o : Option ReadFault) (x : ReadFault) → (if b then o else Some x) ≡ None → (b ≡ true) × (o ≡ None)
@@ -46,7 +48,7 @@ all_short (w ∷ ws) e =
     let rest = all_short ws g.1 in
     ((leb-true (length w.text) 128 g.0, rest.0), rw g.0 (ap (λ z. w.text ∷ z) rest.1))
 
-short_again : (ws : List Word) → AreShort (texts_of ws) → (too_long ws ≡ None) × (token_texts (short_front ws) ≡ texts_of ws)
+pub short_again : (ws : List Word) → AreShort (texts_of ws) → (too_long ws ≡ None) × (token_texts (short_front ws) ≡ texts_of ws)
 short_again [] are = (refl, refl)
 short_again (w ∷ ws) are =
     let rest = short_again ws are.1 in
@@ -67,7 +69,7 @@ abbrev first_of : List ℕ → List (List ℕ) → List ℕ
 first_of y [] = y
 first_of y (x ∷ xs) = x
 
-texts_begin : (ts : List Token) (xs ys : List (List ℕ)) → token_texts ts ≡ xs ++ ys → (rest : List Token) × Begins ts xs rest × (token_texts rest ≡ ys)
+pub texts_begin : (ts : List Token) (xs ys : List (List ℕ)) → token_texts ts ≡ xs ++ ys → (rest : List Token) × Begins ts xs rest × (token_texts rest ≡ ys)
 texts_begin ts [] ys e = (ts, refl, e)
 texts_begin [] (x ∷ xs) ys e = absurd cc
 texts_begin (t ∷ ts) (x ∷ xs) ys e =
@@ -79,7 +81,7 @@ short_part : (xs ys : List (List ℕ)) → AreShort (xs ++ ys) → AreShort xs
 short_part [] ys are = tt
 short_part (x ∷ xs) ys are = (are.0, short_part xs ys are.1)
 
-short_joined : (xs ys : List (List ℕ)) → AreShort xs → AreShort ys → AreShort (xs ++ ys)
+pub short_joined : (xs ys : List (List ℕ)) → AreShort xs → AreShort ys → AreShort (xs ++ ys)
 short_joined [] ys are others = others
 short_joined (x ∷ xs) ys are others = (are.0, short_joined xs ys are.1 others)
 
@@ -146,37 +148,32 @@ closed_zero f (t ∷ u ∷ ts) e = absurd (no_second (ap tail_of e))
 
 -- ---- the whole text
 
-words_ok : (limits : Limits) (size v : ℕ) (ws : List Word) (f : File) → read_words limits size v ws ≡ Ok f → (v ≡ 1) × (finished size ws (from_locations limits (begun v) (short_front ws)) ≡ Ok f)
-words_ok limits size v ws f e =
-    let b = branch (v == 1) (finished size ws (from_locations limits (begun v) (short_front ws))) _ f e in
-    (eqb-true v 1 b.0, b.1)
-
-module _ (forms : FormsAreExact) (fields : FieldsAreExact) (names : SignsAndNamesTell) (locations : LocationsAreExact) (curves : CurvesAreExact) (meshes : MeshesAreExact) (surfaces : SurfacesAreExact) where
-  words_take : (limits : Limits) (size v : ℕ) (ws : List Word) (f : File) → read_words limits size v ws ≡ Ok f → (f.version ≡ v) × IsSpelling (texts_of ws) f × IsSound f × IsWithin limits f
-  words_take limits size v ws f e =
-      let one = words_ok limits size v ws f e in
-      let whole = finished_ok size ws (from_locations limits (begun v) (short_front ws)) f one.1 in
-      let file = file_takes forms fields names locations curves meshes surfaces limits v (short_front ws) whole.0 f whole.1 in
+module _ (scans : ScannerGivesTokens) (forms : FormsAreExact) (fields : FieldsAreExact) (names : SignsAndNamesTell) (locations : LocationsAreExact) (curves : CurvesAreExact) (meshes : MeshesAreExact) (surfaces : SurfacesAreExact) (heads : HeadsAreExact) where
+  words_take : (limits : Limits) (size v : ℕ) (ws : List Word) (f : File) → IsVersionRead v → read_words limits size v ws ≡ Ok f → (f.version ≡ v) × IsSpelling (texts_of ws) f × IsSound f × IsWithin limits f
+  words_take limits size v ws f known e =
+      let whole = finished_ok size ws (from_locations limits (begun v) (short_front ws)) f e in
+      let file = file_takes forms fields names locations curves meshes surfaces heads limits v (short_front ws) whole.0 f whole.1 in
       let short = all_short ws whole.2 in
       let texts : texts_of ws ≡ spell_file f ++ token_texts whole.0 = sym short.1 ∙ begins_texts (short_front ws) (spell_file f) whole.0 file.0 in
       let own = short_part (spell_file f) (token_texts whole.0) (subst AreShort texts short.0) in (
         file.2,
         closing_texts whole.0 whole.3 f (texts_of ws) texts,
-        sound_from names f limits file.1 (file.2 ∙ one.0) own,
+        sound_from names f limits file.1 (subst IsVersionRead (sym file.2) known) own,
         within_from names f limits file.1,
       )
 
-  head_takes : (limits : Limits) (size : ℕ) (h : Head) (f : File) → read_head limits size h ≡ Ok f → ((ws : List Word) × (after_head h ≡ Some (f.version, ws)) × IsSpelling (texts_of ws) f) × IsSound f × IsWithin limits f
-  head_takes limits size missing f e = absurd cc
-  head_takes limits size (unread line k) f e = absurd cc
-  head_takes limits size (version v k rest) f e =
-      let w = words_take limits size v (words_at k rest) f e in
+  head_takes : (limits : Limits) (size : ℕ) (h : Head) (f : File) → ((v : ℕ) (ws : List Word) → after_head h ≡ Some (v, ws) → IsVersionRead v) → read_head limits size h ≡ Ok f
+      → ((ws : List Word) × (after_head h ≡ Some (f.version, ws)) × IsSpelling (texts_of ws) f) × IsSound f × IsWithin limits f
+  head_takes limits size missing f known e = absurd cc
+  head_takes limits size (unread line k) f known e = absurd cc
+  head_takes limits size (version v k rest) f known e =
+      let w = words_take limits size v (words_at k rest) f (known v (words_at k rest) refl) e in
       ((words_at k rest, ap (λ (m : ℕ). Some (m, words_at k rest)) (sym w.0), w.1), w.2, w.3)
 
   pub takes : (limits : Limits) (bytes : List ℕ) (f : File) → read_text limits bytes ≡ Ok f → Spells bytes f × IsWithin limits f
   unfolding read_text tokens_of
   takes limits bytes f e =
-      let h = head_takes limits (length bytes) (head_at true 1 0 bytes) f e in
+      let h = head_takes limits (length bytes) (head_at true 1 0 bytes) f (λ v ws is. (scans.version bytes v ws is).2) e in
       (record { tokens = h.0; sound = h.1 }, h.2)
 
   -- what is read of words with the spelling of a file and then these texts
@@ -185,9 +182,8 @@ module _ (forms : FormsAreExact) (fields : FieldsAreExact) (names : SignsAndName
   spelled_again limits size ws f ys texts few sound within closes =
       let short = short_again ws (subst AreShort (sym texts) (short_joined (spell_file f) ys sound.tokens few)) in
       let split = texts_begin (short_front ws) (spell_file f) ys (short.1 ∙ texts) in
-      let read = file_again forms fields names locations curves meshes surfaces limits (short_front ws) split.0 f split.1 (fits_from names f sound limits within) in
-      let one : (f.version == 1) ≡ true = ap (λ (v : ℕ). v == 1) sound.version in
-      rw (one, read, short.0) (closes split.0 split.2)
+      let read = file_again forms fields names locations curves meshes surfaces heads limits (short_front ws) split.0 f split.1 (fits_from names f sound most_reps limits (counted limits f within)) in
+      rw (read, short.0) (closes split.0 split.2)
 
   words_again : (limits : Limits) (size : ℕ) (ws : List Word) (f : File) → IsSpelling (texts_of ws) f → IsSound f → IsWithin limits f → read_words limits size f.version ws ≡ Ok f
   words_again limits size ws f (inl e) sound within = spelled_again limits size ws f [] (e ∙ sym (append-nil (spell_file f))) tt sound within (λ ts e. closed_again f ts [] e refl)
@@ -205,20 +201,3 @@ module _ (forms : FormsAreExact) (fields : FieldsAreExact) (names : SignsAndName
   pub again : (limits : Limits) (bytes : List ℕ) (f : File) → Spells bytes f → IsWithin limits f → read_text limits bytes ≡ Ok f
   unfolding read_text tokens_of
   again limits bytes f spells within = head_again limits (length bytes) (head_at true 1 0 bytes) spells.tokens.0 f spells.tokens.1 spells.tokens.2 spells.sound within
-
-  -- read within limits that are wide enough for both
-  one : (bytes : List ℕ) (f g : File) → Spells bytes f → Spells bytes g → f ≡ g
-  one bytes f g of_f of_g =
-      let uses_f = length (flat_map (λ r. r.uses) f.records) in
-      let uses_g = length (flat_map (λ r. r.uses) g.records) in
-      let limits : Limits = record {
-        entries = (length f.locations + (length f.curve2s + (length f.curves + (length f.polygons + (length f.polygons_on + (length f.surfaces + length f.meshes)))))) + (length g.locations + (length g.curve2s + (length g.curves + (length g.polygons + (length g.polygons_on + (length g.surfaces + length g.meshes))))));
-        records = length f.records + length g.records;
-        uses = uses_f + uses_g;
-      } in
-      let within_f : IsWithin limits f = record { locations = omega arith; curve2s = omega arith; curves = omega arith; polygons = omega arith; polygons_on = omega arith; surfaces = omega arith; meshes = omega arith; records = omega arith; uses = omega arith } in
-      let within_g : IsWithin limits g = record { locations = omega arith; curve2s = omega arith; curves = omega arith; polygons = omega arith; polygons_on = omega arith; surfaces = omega arith; meshes = omega arith; records = omega arith; uses = omega arith } in
-      same_file f g (sym (again limits bytes f of_f within_f) ∙ again limits bytes g of_g within_g)
-
-  pub reading_is_exact : ReadingIsExact
-  reading_is_exact = record { takes = takes; again = again; one = one }

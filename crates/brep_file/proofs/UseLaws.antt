@@ -25,8 +25,7 @@ use Rattle.brep_file.specs.declared.reader.state.Named.{Named}
 use Rattle.brep_file.specs.Seen.{Seen}
 use Rattle.brep_file.specs.Spelling.{spell_use}
 use Rattle.brep_file.specs.RecordReading.{Bounds, Gathered, SoFar, signed_number, use_of, if_above, above_at, fitting, named, named_at, gathered, is_star, uses_from, located}
-use Rattle.brep_file.proofs.Basics.{and_true, branch_ok, some_is}
-use Rattle.brep_file.proofs.HeadLaws.{chosen}
+use Rattle.brep_file.proofs.Basics.{and_true, branch_ok, chosen, some_is}
 
 -- ---- signs joined to numbers
 
@@ -150,7 +149,7 @@ module _ (forms : FormsAreExact) where
     pub use_again : (turn : Turn) (number : ℕ) → number < 10 ^ 18 → use_of (use_text turn number) ≡ Some (turn, number)
     use_again turn number small = rw (names.signs turn, (forms.numbers (decimal number) number).1 (record { small = small; spelled = refl })) refl
 
-    named_again : (b : Bounds) (seen : List Seen) (parent : Kind) (uses : ℕ) (t : Token) (u : FileUse) → t.text ≡ use_text u.turn u.number → (fits : FitsUse b.locations b.records parent seen u) → uses < b.uses
+    named_again : (b : Bounds) (seen : List Seen) (parent : Kind) (uses : ℕ) (t : Token) (u : FileUse) → t.text ≡ use_text u.turn u.number → (fits : FitsUse b.tables.locations b.records parent seen u) → uses < b.uses
         → named_at b seen parent uses t (use_of t.text) ≡ Ok (record { turn = u.turn; number = u.number; child = fits.child })
     named_again b seen parent uses t u text fits few =
         let found : slice_get seen (b.records - u.number) ≡ Some fits.child = (let inside : seen_at b.records seen u.number ≡ slice_get seen (b.records - u.number) = rw (le-leb u.number b.records fits.to) refl in sym inside ∙ fits.found) in
@@ -164,7 +163,7 @@ spell_uses us = flat_map spell_use us ++ codes "*" ∷ []
 pub record AreTaken (b : Bounds) (s : SoFar) (parent : Kind) (g : Gathered) (ts : List Token) (x : Gathered) (rest : List Token) : Type 0 where
   pub taken : List FileUse
   pub spelled : Begins ts (spell_uses taken) rest
-  pub fits : AllByRecursion (FitsUse b.locations b.records parent s.seen) taken
+  pub fits : AllByRecursion (FitsUse b.tables.locations b.records parent s.seen) taken
   pub few : (s.uses + length g.uses) + length taken ≤ b.uses
   pub result : x ≡ with_uses b.records s.seen g taken
 
@@ -182,7 +181,7 @@ abbrev made_use : Named → ℕ → FileUse
 made_use u location = record { turn = u.turn; number = u.number; location = location }
 
 use_first : (b : Bounds) (s : SoFar) (parent : Kind) (g : Gathered) (t t2 : Token) (ts : List Token) (x : Gathered) (rest : List Token) (u : Named) (location : ℕ)
-    → Names b s.seen parent (s.uses + length g.uses) t.text u → t2.text ≡ decimal location → location ≤ b.locations → location < 10 ^ 18
+    → Names b s.seen parent (s.uses + length g.uses) t.text u → t2.text ≡ decimal location → location ≤ b.tables.locations → location < 10 ^ 18
     → AreTaken b s parent (gathered g u location) ts x rest → AreTaken b s parent g (t ∷ t2 ∷ ts) x rest
 use_first b s parent g t t2 ts x rest u location is text within small others =
     let one = made_use u location in
@@ -217,15 +216,15 @@ module _ (forms : FormsAreExact) (fields : FieldsAreExact) (b : Bounds) (s : SoF
       elim (either (is_star t.text) (g, t2 ∷ ts) (named_at b s.seen parent (s.uses + length g.uses) t (use_of t.text) >>= λ u. located b s parent g u (t2 ∷ ts)) (x, rest) e) [
         | inl star ↦ star_first b s parent g t (t2 ∷ ts) x rest within star.0 (ap (λ (p : Gathered × List Token). p.0) star.1) (ap (λ (p : Gathered × List Token). p.1) star.1)
         | inr other ↦ (let n = bind_ok (named_at b s.seen parent (s.uses + length g.uses) t (use_of t.text)) (λ u. located b s parent g u (t2 ∷ ts)) (x, rest) other.1 in
-            let l = bind_ok (ranged_at 0 b.locations (t2 ∷ ts)) (λ l. uses_from b s parent (gathered g n.0 l.0) ts) (x, rest) n.2 in
+            let l = bind_ok (ranged_at 0 b.tables.locations (t2 ∷ ts)) (λ l. uses_from b s parent (gathered g n.0 l.0) ts) (x, rest) n.2 in
             let is = named_takes forms b s.seen parent (s.uses + length g.uses) t (use_of t.text) refl n.0 n.1 in
-            let location = (fields.ranged 0 b.locations).takes (t2 ∷ ts) l.0.1 l.0.0 l.1 in
+            let location = (fields.ranged 0 b.tables.locations).takes (t2 ∷ ts) l.0.1 l.0.0 l.1 in
             let longer = length-append g.uses (made_use n.0 l.0.0 ∷ []) in
             use_first b s parent g t t2 ts x rest n.0 l.0.0 is location.0.0 location.1.to location.1.small (uses_takes (gathered g n.0 l.0.0) ts rest x (omega (arith, longer, is.few)) l.2))
       ]
 
   module _ (names : SignsAndNamesTell) where
-    pub uses_again : (us : List FileUse) (g : Gathered) (ts rest : List Token) → Begins ts (spell_uses us) rest → AllByRecursion (FitsUse b.locations b.records parent s.seen) us → (s.uses + length g.uses) + length us ≤ b.uses
+    pub uses_again : (us : List FileUse) (g : Gathered) (ts rest : List Token) → Begins ts (spell_uses us) rest → AllByRecursion (FitsUse b.tables.locations b.records parent s.seen) us → (s.uses + length g.uses) + length us ≤ b.uses
         → uses_from b s parent g ts ≡ Ok (with_uses b.records s.seen g us, rest)
     uses_again [] g [] rest begins fit few = absurd begins
     uses_again [] g (t ∷ ts) rest begins fit few =
@@ -236,7 +235,7 @@ module _ (forms : FormsAreExact) (fields : FieldsAreExact) (b : Bounds) (s : SoF
     uses_again (u ∷ us) g (t ∷ t2 ∷ ts) rest begins fit few =
         let plain : is_star t.text ≡ false = ap is_star begins.0 ∙ no_star u.turn (decimal u.number) in
         let one = named_again forms names b s.seen parent (s.uses + length g.uses) t u begins.0 fit.0 (omega (arith, few)) in
-        let location = (fields.ranged 0 b.locations).again (t2 ∷ ts) ts u.location (begins.1.0, refl) (record { small = fit.0.location_small; from = omega arith; to = fit.0.location }) in
+        let location = (fields.ranged 0 b.tables.locations).again (t2 ∷ ts) ts u.location (begins.1.0, refl) (record { small = fit.0.location_small; from = omega arith; to = fit.0.location }) in
         let deep : fit.0.child.depth ≡ seen_depth b.records s.seen u.number = sym (ap (λ (o : Option Seen). option_map_or (λ c. c.depth) o 0) fit.0.found) in
         let same : gathered g (record { turn = u.turn; number = u.number; child = fit.0.child }) u.location ≡ with_use b.records s.seen g u = ap (λ (d : ℕ). record { uses = g.uses ++ u ∷ []; depth = max g.depth d }) deep in
         let longer = length-append g.uses (u ∷ []) in

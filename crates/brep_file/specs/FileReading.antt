@@ -1,5 +1,5 @@
 -- Reading a whole file from its tokens and from its bytes.
-use Rattle.std.specs.Prelude.{ℕ, ◌==◌, if◌then◌else◌, nat_le, nat_eq, List, [], ◌∷◌, length, Option, Some, None, Result, Ok, Err, unwrap_or, true, codes}
+use Rattle.std.specs.Prelude.{ℕ, if◌then◌else◌, nat_le, nat_eq, List, [], ◌∷◌, length, Option, Some, None, Result, Ok, Err, unwrap_or, true, codes}
 use Rattle.std.specs.Cmp.Lexicographic.{pointwise}
 use Rattle.brep_tokens.specs.Tokens.{Word, Head, missing, unread, version, head_at, words_at}
 use Rattle.brep_tokens.specs.declared.text.Token.{Token}
@@ -11,7 +11,7 @@ use Rattle.curve_tables.specs.Curves.{curve2_at, curve3_at}
 use Rattle.surface_tables.specs.Surfaces.{surface_at}
 use Rattle.mesh_tables.specs.Meshes.{polygon_at, polygon_on_at, mesh_at}
 use Rattle.brep_file.specs.declared.file.File.{File}
-use Rattle.brep_file.specs.Sound.{Limits}
+use Rattle.brep_file.specs.Sound.{Limits, sizes_of}
 use Rattle.brep_file.specs.SectionReading.{heading_at, section_at, locations_at}
 use Rattle.brep_file.specs.RecordReading.{nothing_read, records_from, root_at}
 
@@ -39,7 +39,7 @@ module _ (limits : Limits) where
   unfoldable pub from_records : File → List Token → Read File
   from_records f ts =
       heading_at (codes "TShapes") limits.records ts >>= λ n.
-      records_from (record { locations = length f.locations; records = n.0; uses = limits.uses }) nothing_read n.0 n.1 >>= λ x.
+      records_from (record { tables = sizes_of f; version = f.version; records = n.0; uses = limits.uses }) nothing_read n.0 n.1 >>= λ x.
       from_root (record f { records = x.0.records }) x.1
 
   unfoldable pub from_meshes : File → List Token → Read File
@@ -101,11 +101,9 @@ finished size ws (Ok r) = closed r.0 (too_long ws) r.1
 finished size ws (Err more) = Err (unfinished size ws)
 finished size ws (Err (fault x)) = Err x
 
--- version 1 is read
+-- the words after the version line
 abbrev pub read_words : Limits → ℕ → ℕ → List Word → Result File ReadFault
-read_words limits size v ws =
-    if v == 1 then finished size ws (from_locations limits (begun v) (short_front ws))
-    else Err (record { code = faults.VersionNotRead; offset = 0; value = 0; limit = 0 })
+read_words limits size v ws = finished size ws (from_locations limits (begun v) (short_front ws))
 
 abbrev pub read_head : Limits → ℕ → Head → Result File ReadFault
 read_head limits size missing = Err (record { code = faults.NoVersion; offset = size; value = 0; limit = 0 })

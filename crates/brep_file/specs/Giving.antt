@@ -1,5 +1,5 @@
 -- What reading from a scanner gives.
-use Rattle.std.specs.Prelude.{◌≡◌, ◌<◌, ℕ, true, List, [], ◌∷◌, length, Result, Ok, Err}
+use Rattle.std.specs.Prelude.{◌≡◌, ◌<◌, ◌≤◌, ◌⊎◌, ℕ, true, List, [], ◌∷◌, length, Result, Ok, Err}
 use Rattle.brep_tokens.specs.State.{Scan}
 use Rattle.brep_tokens.specs.Scan.{head_of, words_left}
 use Rattle.brep_tokens.specs.Tokens.{version, words_at}
@@ -10,7 +10,7 @@ use Rattle.brep_tokens.specs.declared.text.Token.{Token}
 use Rattle.entry_readers.specs.Reading.{Read, more, fault, ◌>>=◌}
 use Rattle.brep_file.specs.declared.file.File.{File}
 use Rattle.brep_file.specs.FileReading.{closed, from_curve2s, from_root, read_head, short_front, too_long, unfinished}
-use Rattle.brep_file.specs.Sound.{Limits, file_limits}
+use Rattle.brep_file.specs.Sound.{Limits, file_limits, sizes_of}
 use Rattle.brep_file.specs.SectionReading.{locations_from}
 use Rattle.brep_file.specs.RecordReading.{nothing_read, records_from}
 
@@ -92,6 +92,16 @@ closing s f = closed f (too_long (words_left s)) (front s)
 abbrev pub from_placed : File → ℕ → List Token → Read File
 from_placed f n ts = locations_from [] n ts >>= λ x. from_curve2s file_limits (record f { locations = x.0 }) x.1
 
+-- the version is one that is read, and the tables so far are within their limits
+pub record IsPartRead (f : File) : Type 0 where
+  pub version : (f.version ≡ 1) ⊎ (f.version ≡ 2)
+  pub curve2s : length f.curve2s ≤ file_limits.entries
+  pub curves : length f.curves ≤ file_limits.entries
+  pub polygons : length f.polygons ≤ file_limits.entries
+  pub polygons_on : length f.polygons_on ≤ file_limits.entries
+  pub surfaces : length f.surfaces ≤ file_limits.entries
+  pub meshes : length f.meshes ≤ file_limits.entries
+
 -- so many records, and the root use
 abbrev pub from_counted : File → ℕ → List Token → Read File
-from_counted f n ts = records_from (record { locations = length f.locations; records = n; uses = file_limits.uses }) nothing_read n ts >>= λ x. from_root (record f { records = x.0.records }) x.1
+from_counted f n ts = records_from (record { tables = sizes_of f; version = f.version; records = n; uses = file_limits.uses }) nothing_read n ts >>= λ x. from_root (record f { records = x.0.records }) x.1

@@ -5,12 +5,11 @@ pub mod Reads
 pub mod Marks
 pub mod Seen
 pub mod Many
-pub mod HeadReading
-pub mod HeadLeft
 pub mod RecordReading
 pub mod RecordLeft
 pub mod SectionReading
 pub mod LocationsLeft
 pub mod FileReading
 pub mod Giving
+pub mod Feeding
 pub mod ReadingLaws

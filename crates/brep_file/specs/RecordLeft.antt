@@ -1,13 +1,16 @@
 -- What the readers of records have still to read.
-use Rattle.std.specs.Prelude.{◌≡◌, ◌+◌, ◌<◌, ◌≤◌, ℕ, List, length, Option, Some, None, Result, Ok, Err}
+use Rattle.std.specs.Prelude.{◌≡◌, ◌+◌, ◌<◌, ◌≤◌, ◌⊎◌, ℕ, List, length, Option, Some, None, Result, Ok, Err}
 use Rattle.brep_tokens.specs.declared.text.Token.{Token}
 use Rattle.brep_tokens.specs.declared.fault.ReadFault.{ReadFault}
 use Rattle.entry_readers.specs.Reading.{Read, Refusal, fault, ◌>>=◌}
 use Rattle.orientation.specs.declared.kind.Kind.{Kind}
-use Rattle.brep_file.specs.HeadLeft.{head_left, IsWaiting as IsWaitingHead}
+use Rattle.tshape_data.specs.HeadLeft.{head_left, IsWaiting as IsWaitingHead}
+use Rattle.tshape_data.specs.RepReading.{most_reps}
+use Rattle.tshape_data.specs.Sound.{rep_count}
+use Rattle.tshape_data.specs.declared.head.Head.{Head}
+use Rattle.tshape_data.specs.declared.reader.HeadReader.{HeadReader}
 use Rattle.brep_file.specs.Many.{many_left}
 use Rattle.brep_file.specs.RecordReading.{Bounds, Gathered, SoFar, located, record_at, root_at, root_located, used, uses_from}
-use Rattle.brep_file.specs.declared.head.Head.{Head}
 use Rattle.brep_file.specs.declared.uses.FileUse.{FileUse}
 use Rattle.brep_file.specs.declared.reader.state.Bounds.{Bounds as HeldBounds}
 use Rattle.brep_file.specs.declared.reader.state.Gathered.{Gathered as HeldGathered}
@@ -34,13 +37,17 @@ abbrev pub most_uses : ℕ
 most_uses = 16777216
 
 abbrev pub bounds_of : HeldBounds → Bounds
-bounds_of b = record { locations = b.locations; records = b.records; uses = most_uses }
+bounds_of b = record { tables = b.tables; version = b.version; records = b.records; uses = most_uses }
 
 abbrev pub gathered_of : HeldGathered → Gathered
 gathered_of g = record { uses = g.uses; depth = g.depth }
 
 abbrev pub so_far_of : HeldSoFar → SoFar
-so_far_of s = record { records = s.records; seen = s.seen.items; uses = s.uses }
+so_far_of s = record { records = s.records; seen = s.seen.items; uses = s.uses; reps = s.reps }
+
+-- a version that is read
+abbrev pub IsVersionRead : ℕ → Type 0
+IsVersionRead version = (version ≡ 1) ⊎ (version ≡ 2)
 
 -- ---- uses
 
@@ -91,19 +98,33 @@ at_record (Some head) b s r ts = used s head (uses_left b s head.kind r.uses ts)
 abbrev pub record_left : Bounds → SoFar → RecordReader → List Token → Read SoFar
 record_left b s r ts = at_record r.head b s r ts
 
-abbrev pub record_waits_at : Option Head → ℕ → RecordReader → Type 0
-record_waits_at None before r = IsWaitingHead r.reader × IsWaitingUses before r.uses
-record_waits_at (Some head) before r = IsWaitingUses before r.uses
+-- with so many representations before, those of a head are within the limit
+abbrev pub HasFewReps : ℕ → Head → Type 0
+HasFewReps reps head = reps + rep_count head.payload ≤ most_reps
 
-abbrev pub IsWaitingRecord : ℕ → RecordReader → Type 0
-IsWaitingRecord before r = record_waits_at r.head before r
+-- whatever head is read, it is so
+abbrev pub ReadsFew : ℕ → HeadReader → Type 0
+ReadsFew reps r = (ts rest : List Token) (head : Head) → head_left r ts ≡ Ok (head, rest) → HasFewReps reps head
 
-abbrev pub record_done_at : Option Head → ℕ → RecordReader → Type 0
-record_done_at None before r = ⊥
-record_done_at (Some head) before r = AreDoneUses before r.uses
+pub record IsWaitingForHead (before reps : ℕ) (r : RecordReader) : Type 0 where
+  pub waits : IsWaitingHead r.reader
+  pub few : ReadsFew reps r.reader
+  pub uses : IsWaitingUses before r.uses
 
-abbrev pub IsDoneRecord : ℕ → RecordReader → Type 0
-IsDoneRecord before r = record_done_at r.head before r
+abbrev pub record_waits_at : Option Head → ℕ → ℕ → RecordReader → Type 0
+record_waits_at None before reps r = IsWaitingForHead before reps r
+record_waits_at (Some head) before reps r = IsWaitingUses before r.uses × HasFewReps reps head
+
+-- a token is due, where so many uses and representations stand in the records before
+abbrev pub IsWaitingRecord : ℕ → ℕ → RecordReader → Type 0
+IsWaitingRecord before reps r = record_waits_at r.head before reps r
+
+abbrev pub record_done_at : Option Head → ℕ → ℕ → RecordReader → Type 0
+record_done_at None before reps r = ⊥
+record_done_at (Some head) before reps r = AreDoneUses before r.uses × HasFewReps reps head
+
+abbrev pub IsDoneRecord : ℕ → ℕ → RecordReader → Type 0
+IsDoneRecord before reps r = record_done_at r.head before reps r
 
 -- ---- the records
 
@@ -114,8 +135,10 @@ records_left r ts = many_left (record_at (bounds_of r.bounds)) (record_left (bou
 pub record AreWaitingRecords (r : RecordsReader) : Type 0 where
   pub due : 0 < r.due
   pub count : length r.so_far.seen.items + r.due ≡ r.bounds.records
+  pub version : IsVersionRead r.bounds.version
   pub uses : r.so_far.uses ≤ most_uses
-  pub waits : IsWaitingRecord r.so_far.uses r.reader
+  pub reps : r.so_far.reps ≤ most_reps
+  pub waits : IsWaitingRecord r.so_far.uses r.so_far.reps r.reader
 
 -- ---- the root use
 

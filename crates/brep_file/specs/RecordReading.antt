@@ -10,22 +10,25 @@ use Rattle.orientation.specs.declared.turn.Turn.{Turn}
 use Rattle.orientation.specs.declared.kind.Kind.{Kind}
 use Rattle.orientation.specs.Kinds.{is_below, rank_of}
 use Rattle.orientation.specs.Turns.{turn_of}
+use Rattle.tshape_data.specs.HeadReading.{head_at}
+use Rattle.tshape_data.specs.Sound.{rep_count}
+use Rattle.tshape_data.specs.declared.bounds.Bounds.{Bounds as HeadBounds}
+use Rattle.tshape_data.specs.declared.head.Head.{Head}
 use Rattle.brep_file.specs.declared.uses.FileUse.{FileUse}
-use Rattle.brep_file.specs.declared.head.Head.{Head}
 use Rattle.brep_file.specs.declared.records.Record.{Record}
-use Rattle.brep_file.specs.HeadReading.{head_at}
 use Rattle.brep_file.specs.Many.{many_from}
 use Rattle.brep_file.specs.Seen.{Seen}
 use Rattle.brep_file.specs.declared.reader.state.Named.{Named}
 
--- the records so far, what is to be known of them, and how many uses they have
+-- the records so far, what is to be known of them, and how many uses and representations they have
 pub record SoFar : Type 0 where
   pub records : List Record
   pub seen : List Seen
   pub uses : ℕ
+  pub reps : ℕ
 
 abbrev pub nothing_read : SoFar
-nothing_read = record { records = []; seen = []; uses = 0 }
+nothing_read = record { records = []; seen = []; uses = 0; reps = 0 }
 
 -- the uses of a record so far, and the greatest depth of the trees that they name
 pub record Gathered : Type 0 where
@@ -41,11 +44,13 @@ with_record s head g = record {
   records = s.records ++ record { head = head; uses = g.uses } ∷ [];
   seen = s.seen ++ record { kind = head.kind; depth = suc g.depth } ∷ [];
   uses = s.uses + length g.uses;
+  reps = s.reps + rep_count head.payload;
 }
 
--- how many locations and records there are, and how many uses the records may have together
+-- how many entries each table has, of which version the file is, how many records there are, and how many uses they may have together
 pub record Bounds : Type 0 where
-  pub locations : ℕ
+  pub tables : HeadBounds
+  pub version : ℕ
   pub records : ℕ
   pub uses : ℕ
 
@@ -105,14 +110,14 @@ module _ (b : Bounds) (s : SoFar) (parent : Kind) where
     -- after the sign and the number
     pub located : Gathered → Named → List Token → Read Gathered
     located g u [] = Err more
-    located g u (t ∷ ts) = ranged_at 0 b.locations (t ∷ ts) >>= λ location. uses_from (gathered g u location.0) ts
+    located g u (t ∷ ts) = ranged_at 0 b.tables.locations (t ∷ ts) >>= λ location. uses_from (gathered g u location.0) ts
 
 -- a record more, of which the uses are read
 abbrev pub used : SoFar → Head → Read Gathered → Read SoFar
 used s head read = read >>= λ g. Ok (with_record s head g.0, g.1)
 
 abbrev pub record_at : Bounds → SoFar → List Token → Read SoFar
-record_at b s ts = head_at ts >>= λ head. used s head.0 (uses_from b s head.0.kind none_gathered head.1)
+record_at b s ts = head_at (record b.tables { reps = s.reps }) b.version ts >>= λ head. used s head.0 (uses_from b s head.0.kind none_gathered head.1)
 
 -- so many records more
 abbrev pub records_from : Bounds → SoFar → ℕ → List Token → Read SoFar

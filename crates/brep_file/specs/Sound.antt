@@ -1,19 +1,18 @@
 -- What makes a file sound, and when it is small enough to be read.
-use Rattle.std.specs.Prelude.{◌≡◌, ℕ, ◌<◌, ◌≤◌, ◌^◌, List, All, length, Some}
+use Rattle.std.specs.Prelude.{◌≡◌, ◌⊎◌, ◌+◌, ◌<◌, ◌≤◌, ◌^◌, ℕ, List, [], ◌∷◌, All, length, Some}
 use Rattle.std.specs.List.{AllByRecursion, flat_map}
 use Rattle.orientation.specs.Kinds.{IsBelow}
 use Rattle.orientation.specs.declared.kind.Kind.{Kind}
-use Rattle.orientation.specs.declared.kind.Kind.TheVariants.{Ve, Co}
-use Rattle.entry_readers.specs.Begins.{IsDecimal}
 use Rattle.location_table.specs.Locations.{AreSoundLocations}
 use Rattle.curve_tables.specs.Sound.{IsSound2, IsSound3}
 use Rattle.surface_tables.specs.Sound.{IsSoundSurface}
 use Rattle.mesh_tables.specs.Sound.{IsSoundPolygon, IsSoundPolygonOn, IsSoundMesh}
+use Rattle.tshape_data.specs.RepReading.{most_reps}
+use Rattle.tshape_data.specs.Sound.{IsSoundHead, rep_count}
+use Rattle.tshape_data.specs.declared.bounds.Bounds.{Bounds}
 use Rattle.expansion_laws.specs.Measures.{depth}
 use Rattle.expansion_laws.specs.Expansion.{IsNumberOf}
 use Rattle.brep_file.specs.declared.uses.FileUse.{FileUse}
-use Rattle.brep_file.specs.declared.head.Payload.{Payload}
-use Rattle.brep_file.specs.declared.head.Payload.TheVariants.{Vertex, Nothing}
 use Rattle.brep_file.specs.declared.records.Record.{Record}
 use Rattle.brep_file.specs.declared.file.File.{File}
 use Rattle.brep_file.specs.PlainRecords.{record_of, tree_of_record}
@@ -38,12 +37,18 @@ pub record AreSoundTables (f : File) : Type 0 where
   pub surfaces : IsSoundTable IsSoundSurface f.surfaces
   pub meshes : IsSoundTable IsSoundMesh f.meshes
 
--- The data are those of the kind, and as many as the kind asks for. These kinds are read: vertices without
--- representations, and compounds.
-abbrev pub IsShaped : Kind → Payload → Type 0
-IsShaped Ve (Vertex d) = (length d.texts ≡ 4) × AllByRecursion IsDecimal d.texts
-IsShaped Co Nothing = Unit {0}
-IsShaped _ _ = ⊥
+-- how many entries each table has
+abbrev pub sizes_of : File → Bounds
+sizes_of f = record {
+  locations = length f.locations;
+  curve2s = length f.curve2s;
+  curves = length f.curves;
+  polygons = length f.polygons;
+  polygons_on = length f.polygons_on;
+  surfaces = length f.surfaces;
+  meshes = length f.meshes;
+  reps = 0;
+}
 
 -- a use in the record with the number `own` and of the kind `parent`: it names a record above, whose kind is in order, and
 -- a location
@@ -54,11 +59,11 @@ pub record IsUse (f : File) (own : ℕ) (parent : Kind) (u : FileUse) : Type 0 w
   pub location : u.location ≤ length f.locations
 
 pub record IsRecord (f : File) (own : ℕ) (r : Record) : Type 0 where
-  pub shaped : IsShaped r.head.kind r.head.payload
+  pub head : IsSoundHead (sizes_of f) f.version r.head
   pub uses : All (IsUse f own r.head.kind) r.uses
 
 pub record IsSound (f : File) : Type 0 where
-  pub version : f.version ≡ 1
+  pub version : (f.version ≡ 1) ⊎ (f.version ≡ 2)
   -- a token has at most 128 bytes
   pub tokens : AllByRecursion (λ text. length text ≤ 128) (spell_file f)
   pub tables : AreSoundTables f
@@ -67,6 +72,11 @@ pub record IsSound (f : File) : Type 0 where
   pub depths : (k : ℕ) → IsNumberOf (length f.records) k → depth (tree_of_record f k) ≤ 512
   pub root : IsNumberOf (length f.records) f.root.number
   pub root_location : f.root.location ≤ length f.locations
+
+-- how many representations stand in records
+abbrev pub reps_in : List Record → ℕ
+reps_in [] = 0
+reps_in (r ∷ rs) = rep_count r.head.payload + reps_in rs
 
 -- how many entries each table may have, how many records, and how many uses of records together
 pub record Limits : Type 0 where
@@ -84,6 +94,7 @@ pub record IsWithin (limits : Limits) (f : File) : Type 0 where
   pub meshes : length f.meshes ≤ limits.entries
   pub records : length f.records ≤ limits.records
   pub uses : length (flat_map (λ r. r.uses) f.records) ≤ limits.uses
+  pub reps : reps_in f.records ≤ most_reps
 
 -- the limits of the program
 abbrev pub file_limits : Limits

@@ -1,6 +1,9 @@
 //! A file as a value, by the sections of the BREP format.
+ghost use Rattle.brep_file.specs.PlainRecords.{record_of};
+ghost use Rattle.expansion_laws.specs.Expansion.{IsNumberOf};
+ghost use Rattle.std.specs.Prelude.{◌≡◌, Some, length};
 
-use crate::records::Records;
+use crate::records::{Record, Records};
 use crate::uses::FileUse;
 use curve_tables::{Curve2, Curve3};
 use entry_readers::EntryList;
@@ -21,4 +24,17 @@ pub struct File {
     pub meshes: Meshes,
     pub records: Records,
     pub root: FileUse,
+}
+
+impl File {
+    /// The record with a number.
+    pub fn entry(&self, number: u32) -> &Record
+        requires { IsNumberOf (length self.now.records) number }
+        ensures { record_of self.now number ≡ Some result.now }
+    {
+        match self.records.get(self.records.len() - number as usize) {
+            Some(record) => record,
+            None => unreachable!(),
+        }
+    }
 }

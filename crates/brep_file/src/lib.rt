@@ -2,7 +2,7 @@
 #![tactic(auto)]
 
 mod file;
-mod head;
+mod file_reader;
 pub mod laws;
 mod marks;
 mod reader;
@@ -12,7 +12,7 @@ mod tests;
 mod uses;
 
 pub use file::File;
-pub use head::{Flags, Head, Payload, VertexData};
+pub use file_reader::FileReader;
 pub use marks::is_marked;
 pub use reader::read_file;
 pub use records::{Record, Records};

@@ -1,6 +1,5 @@
 //! Reads a file token by token.
 
-mod head;
 mod heading;
 mod locations;
 mod pull;

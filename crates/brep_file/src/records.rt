@@ -1,10 +1,10 @@
 //! Records: the entries of the section `TShapes`.
 ghost use Rattle.std.specs.Prelude.{◌≡◌, [], ◌∷◌, ◌++◌, length, OnOk, OnErr, IsTrue, IfSome, IfNone, ◌↔◌, ◌≤◌, slice_get, Some};
 
-use crate::head::Head;
 use crate::uses::FileUses;
 use std::alloc::{AllocError, Global};
 use std::marker::Model;
+use tshape_data::Head;
 
 /// A record: an entry of the section `TShapes`.
 #[derive(Drop)]

@@ -1,4 +1,7 @@
 //! Files that are read, and the first token that isn't accepted, in texts that were written by hand.
+mod codes;
+mod heads;
+
 use crate::{File, laws, read_file};
 use brep_tokens::ReadStop;
 use std::alloc::Global;
@@ -113,7 +116,8 @@ fn faults_of_records(rt: HostRuntime) -> Result<(), Fail> {
         ("TShapes 2097153", "TooMany 148 2097153 2097152"),
         ("TShapes 1\nVx", "WordExpected 150 0 0"),
         ("TShapes 1\nVe 1e-07 0 0 x", "DecimalExpected 163 0 0"),
-        ("TShapes 1\nVe 1e-07 0 0 0 0 1", "WordExpected 167 0 0"),
+        ("TShapes 1\nVe 1e-07 0 0 0 0 1", "Truncated 168 0 0"),
+        ("TShapes 1\nVe 1e-07 0 0 0 1 0", "UnknownCode 167 0 0"),
         ("TShapes 1\nCo 0101102", "FlagExpected 153 0 0"),
         ("TShapes 1\nCo 0101100 1", "UseExpected 161 0 0"),
         ("TShapes 0 +1 0", "IndexOutOfRange 150 1 0"),

@@ -1,11 +1,11 @@
 //! Reads the parts of a file from a scanner, token by token.
 ghost use Rattle.brep_file.specs.Giving.{Fails, Gives, GoesTo, IsReading, TokenGiven, front};
 ghost use Rattle.brep_file.specs.LocationsLeft.{most_entries};
-ghost use Rattle.brep_file.specs.RecordLeft.{bounds_of, so_far_of};
+ghost use Rattle.brep_file.specs.RecordLeft.{IsVersionRead, bounds_of, so_far_of};
 ghost use Rattle.brep_file.specs.RecordReading.{nothing_read, records_from, root_at};
 ghost use Rattle.brep_file.specs.SectionReading.{heading_at, locations_from, section_at};
 ghost use Rattle.entry_readers.specs.Entries.{entries_from};
-ghost use Rattle.std.specs.Prelude.{◌≡◌, ◌<◌, ◌≤◌, [], ◌∷◌, ◌++◌, IfOk, OnOk};
+ghost use Rattle.std.specs.Prelude.{◌≡◌, ◌<◌, ◌≤◌, [], ◌∷◌, ◌++◌, IfOk, OnOk, length};
 
 use crate::reader::heading::count_due;
 use crate::reader::locations::LocationsReader;
@@ -103,7 +103,8 @@ pub(crate) fn locations(alloc: Global, s: &mut Scanner, count: u64) -> Result<Lo
 
 /// So many records.
 pub(crate) fn records(alloc: Global, s: &mut Scanner, bounds: Bounds) -> Result<SoFar, ReadStop>
-    requires { IsReading s.old }
+    requires reading { IsReading s.old }
+    requires version { IsVersionRead bounds.version }
     ensures { Gives so_far_of (records_from (bounds_of bounds) nothing_read bounds.records) s.old s.new result }
 {
     if bounds.records == 0 {
@@ -156,7 +157,8 @@ pub(crate) fn entries<R: EntryReader>(
     count: u64,
 ) -> Result<Vec<R::Entry>, ReadStop>
     requires { IsReading s.old }
-    ensures { Gives (λ x. x.items) (entries_from R.read [] count) s.old s.new result }
+    ensures given { Gives (λ x. x.items) (entries_from R.read [] count) s.old s.new result }
+    ensures many { IfOk result (λ x. length x.items ≡ count) }
 {
     let mut entries = Vec::new(alloc);
     'entries: for _ in 0..count {
@@ -178,7 +180,8 @@ pub(crate) fn section<R: EntryReader>(
     word: &[u8],
 ) -> Result<Vec<R::Entry>, ReadStop>
     requires { IsReading s.old }
-    ensures { Gives (λ x. x.items) (section_at word.now most_entries R.read) s.old s.new result }
+    ensures given { Gives (λ x. x.items) (section_at word.now most_entries R.read) s.old s.new result }
+    ensures few { IfOk result (λ x. length x.items ≤ most_entries) }
 {
     match heading(s, word, 4_194_304) {
         Err(e) => Err(e),

@@ -1,5 +1,5 @@
 //! The reader of so many records.
-ghost use Rattle.brep_file.specs.RecordLeft.{AreWaitingRecords, bounds_of, records_left, so_far_of};
+ghost use Rattle.brep_file.specs.RecordLeft.{AreWaitingRecords, IsVersionRead, bounds_of, records_left, so_far_of};
 ghost use Rattle.brep_file.specs.RecordReading.{nothing_read, record_at};
 ghost use Rattle.brep_file.specs.Many.{many_from};
 ghost use Rattle.brep_tokens.specs.declared.text.Token.{Token};
@@ -11,7 +11,6 @@ use crate::reader::record::RecordReader;
 use crate::reader::state::{Bounds, SoFar};
 use brep_tokens::{Progress, ReadStop, Token};
 use std::alloc::Global;
-use std::mem;
 
 /// Takes the tokens of so many records. The number that a file claims takes no memory before its records come.
 #[derive(Drop)]
@@ -26,7 +25,8 @@ pub(crate) struct RecordsReader {
 impl RecordsReader {
     /// No token was taken yet.
     pub(crate) fn new(alloc: Global, bounds: Bounds) -> RecordsReader
-        requires { 0 < bounds.records }
+        requires some { 0 < bounds.records }
+        requires version { IsVersionRead bounds.version }
         ensures left { (ts : List Token) → records_left result ts ≡ many_from (record_at (bounds_of bounds)) nothing_read bounds.records ts }
         ensures waits { AreWaitingRecords result }
         ensures open { records_left result [] ≡ Err more }
@@ -35,7 +35,7 @@ impl RecordsReader {
             bounds,
             so_far: SoFar::new(alloc),
             due: bounds.records,
-            reader: RecordReader::new(alloc),
+            reader: RecordReader::new(alloc, bounds, 0),
             alloc,
         }
     }
@@ -49,8 +49,7 @@ impl RecordsReader {
             Err(e) => Err(e),
             Ok(Progress::More) => Ok(Progress::More),
             Ok(Progress::Whole) => {
-                let reader = mem::replace(&mut self.reader, RecordReader::new(self.alloc));
-                let (head, gathered) = reader.done();
+                let (head, gathered) = self.reader.done();
                 match self.so_far.push(head, gathered) {
                     Err(_) => Err(ReadStop::NoMemory),
                     Ok(()) => {
@@ -58,6 +57,11 @@ impl RecordsReader {
                         if self.due == 0 {
                             Ok(Progress::Whole)
                         } else {
+                            self.reader = RecordReader::new(
+                                self.alloc,
+                                self.bounds,
+                                self.so_far.reps,
+                            );
                             Ok(Progress::More)
                         }
                     }

@@ -1,7 +1,7 @@
 //! The sections of a file: from each of them on, what is read into the file so far.
 ghost use Rattle.brep_file.specs.FileReading.{begun, from_curve2s, from_curves, from_locations, from_meshes, from_polygons, from_polygons_on, from_records, from_root, from_surfaces};
-ghost use Rattle.brep_file.specs.Giving.{Gives, IsReading, from_counted, from_placed};
-ghost use Rattle.brep_file.specs.Sound.{file_limits};
+ghost use Rattle.brep_file.specs.Giving.{Gives, IsPartRead, IsReading, from_counted, from_placed};
+ghost use Rattle.brep_file.specs.Sound.{file_limits, sizes_of};
 ghost use Rattle.brep_file.specs.LocationsLeft.{most_entries};
 ghost use Rattle.std.specs.Prelude.{◌≡◌, ◌≤◌, length};
 
@@ -18,6 +18,7 @@ use mesh_tables::{MeshReader, Polygon3Reader, PolygonOnMeshReader};
 use orientation::Turn;
 use std::alloc::Global;
 use surface_tables::{SurfaceReader, Surfaces};
+use tshape_data::Bounds as Tables;
 
 /// A file of which nothing was read but its version.
 pub(crate) fn begun_file(alloc: Global, version: u8) -> File
@@ -57,14 +58,33 @@ fn with_root(s: &mut Scanner, file: File, records: u32) -> Result<File, ReadStop
     }
 }
 
+/// How many entries each table has.
+fn sizes(file: &File) -> Tables
+    requires { IsPartRead file.now }
+    ensures { result ≡ sizes_of file.now }
+{
+    Tables {
+        locations: file.locations.len(),
+        curve2s: file.curve2s.len() as u32,
+        curves: file.curves.len() as u32,
+        polygons: file.polygons.len() as u32,
+        polygons_on: file.polygons_on.len() as u32,
+        surfaces: file.surfaces.len() as u32,
+        meshes: file.meshes.len() as u32,
+        reps: 0,
+    }
+}
+
 /// So many records, and the root use.
 fn with_counted(alloc: Global, s: &mut Scanner, file: File, count: u32) -> Result<File, ReadStop>
-    requires { IsReading s.old }
+    requires reading { IsReading s.old }
+    requires part { IsPartRead file }
     ensures { Gives (λ f. f) (from_counted file count) s.old s.new result }
 {
     let mut file = file;
     let bounds = Bounds {
-        locations: file.locations.len(),
+        tables: sizes(&file),
+        version: file.version,
         records: count,
     };
     match records(alloc, s, bounds) {
@@ -78,7 +98,8 @@ fn with_counted(alloc: Global, s: &mut Scanner, file: File, count: u32) -> Resul
 
 /// The records, and the root use.
 fn with_records(alloc: Global, s: &mut Scanner, file: File) -> Result<File, ReadStop>
-    requires { IsReading s.old }
+    requires reading { IsReading s.old }
+    requires part { IsPartRead file }
     ensures { Gives (λ f. f) (from_records file_limits file) s.old s.new result }
 {
     match heading(s, b"TShapes", 2_097_152) {
@@ -89,7 +110,8 @@ fn with_records(alloc: Global, s: &mut Scanner, file: File) -> Result<File, Read
 
 /// Reads the meshes and what follows them.
 fn with_meshes(alloc: Global, s: &mut Scanner, file: File) -> Result<File, ReadStop>
-    requires { IsReading s.old }
+    requires reading { IsReading s.old }
+    requires part { IsPartRead file }
     ensures { Gives (λ f. f) (from_meshes file_limits file) s.old s.new result }
 {
     let mut file = file;
@@ -104,7 +126,8 @@ fn with_meshes(alloc: Global, s: &mut Scanner, file: File) -> Result<File, ReadS
 
 /// Reads the surfaces and what follows them.
 fn with_surfaces(alloc: Global, s: &mut Scanner, file: File) -> Result<File, ReadStop>
-    requires { IsReading s.old }
+    requires reading { IsReading s.old }
+    requires part { IsPartRead file }
     ensures { Gives (λ f. f) (from_surfaces file_limits file) s.old s.new result }
 {
     let mut file = file;
@@ -119,7 +142,8 @@ fn with_surfaces(alloc: Global, s: &mut Scanner, file: File) -> Result<File, Rea
 
 /// Reads the polygons on meshes and what follows them.
 fn with_polygons_on(alloc: Global, s: &mut Scanner, file: File) -> Result<File, ReadStop>
-    requires { IsReading s.old }
+    requires reading { IsReading s.old }
+    requires part { IsPartRead file }
     ensures { Gives (λ f. f) (from_polygons_on file_limits file) s.old s.new result }
 {
     let mut file = file;
@@ -134,7 +158,8 @@ fn with_polygons_on(alloc: Global, s: &mut Scanner, file: File) -> Result<File, 
 
 /// Reads the polygons in space and what follows them.
 fn with_polygons(alloc: Global, s: &mut Scanner, file: File) -> Result<File, ReadStop>
-    requires { IsReading s.old }
+    requires reading { IsReading s.old }
+    requires part { IsPartRead file }
     ensures { Gives (λ f. f) (from_polygons file_limits file) s.old s.new result }
 {
     let mut file = file;
@@ -149,7 +174,8 @@ fn with_polygons(alloc: Global, s: &mut Scanner, file: File) -> Result<File, Rea
 
 /// Reads the 3D curves and what follows them.
 fn with_curves(alloc: Global, s: &mut Scanner, file: File) -> Result<File, ReadStop>
-    requires { IsReading s.old }
+    requires reading { IsReading s.old }
+    requires part { IsPartRead file }
     ensures { Gives (λ f. f) (from_curves file_limits file) s.old s.new result }
 {
     let mut file = file;
@@ -164,7 +190,8 @@ fn with_curves(alloc: Global, s: &mut Scanner, file: File) -> Result<File, ReadS
 
 /// Reads the 2D curves and what follows them.
 fn with_curve2s(alloc: Global, s: &mut Scanner, file: File) -> Result<File, ReadStop>
-    requires { IsReading s.old }
+    requires reading { IsReading s.old }
+    requires part { IsPartRead file }
     ensures { Gives (λ f. f) (from_curve2s file_limits file) s.old s.new result }
 {
     let mut file = file;
@@ -185,6 +212,7 @@ fn with_so_many_locations(
     count: u64,
 ) -> Result<File, ReadStop>
     requires reading { IsReading s.old }
+    requires part { IsPartRead file }
     requires few { count ≤ most_entries }
     ensures { Gives (λ f. f) (from_placed file count) s.old s.new result }
 {
@@ -200,7 +228,8 @@ fn with_so_many_locations(
 
 /// Reads the locations and what follows them.
 pub(crate) fn with_locations(alloc: Global, s: &mut Scanner, file: File) -> Result<File, ReadStop>
-    requires { IsReading s.old }
+    requires reading { IsReading s.old }
+    requires part { IsPartRead file }
     ensures { Gives (λ f. f) (from_locations file_limits file) s.old s.new result }
 {
     match heading(s, b"Locations", 4_194_304) {

@@ -1,22 +1,25 @@
 //! What is known of the records that were read.
 ghost use Rattle.brep_file.specs.RecordLeft.{gathered_of, most_uses, so_far_of};
 ghost use Rattle.brep_file.specs.RecordReading.{gathered, none_gathered, nothing_read, with_record};
+ghost use Rattle.tshape_data.specs.RepReading.{most_reps};
+ghost use Rattle.tshape_data.specs.Sound.{rep_count};
 ghost use Rattle.std.specs.Prelude.{◌≡◌, ◌+◌, ◌<◌, ◌≤◌, OnOk, length};
 
-use crate::head::Head;
 use crate::records::{Record, Records};
 use crate::uses::{FileUse, FileUses};
 use orientation::{Kind, Turn};
 use std::alloc::{AllocError, Global};
 use std::marker::Model;
+use tshape_data::{Bounds as Tables, Head, Payload};
 
 /// How many uses the records of a file may have together.
 pub(crate) const MOST_USES: u32 = 16_777_216;
 
-/// How many locations and records there are.
+/// How many entries each table has, which version the file has, and how many records there are.
 #[derive(Clone, Copy)]
 pub(crate) struct Bounds {
-    pub(crate) locations: u32,
+    pub(crate) tables: Tables,
+    pub(crate) version: u8,
     pub(crate) records: u32,
 }
 
@@ -95,12 +98,24 @@ impl Gathered {
     }
 }
 
-/// The records so far, what is known of each, and how many uses they have together.
+/// The records so far, what is known of each, and how many uses and representations they have together.
 #[derive(Drop)]
 pub(crate) struct SoFar {
     pub(crate) records: Records,
     pub(crate) seen: Vec<Seen>,
     pub(crate) uses: u32,
+    pub(crate) reps: u64,
+}
+
+/// How many representations stand in the data of a record.
+fn reps_of(payload: &Payload) -> u64
+    ensures { result ≡ rep_count payload.now }
+{
+    match payload {
+        Payload::Vertex(data) => data.points.len() as u64,
+        Payload::Edge(data) => data.reps.len() as u64,
+        Payload::Face(_) | Payload::Nothing => 0,
+    }
 }
 
 impl SoFar {
@@ -111,6 +126,7 @@ impl SoFar {
             records: Records::new(alloc),
             seen: Vec::new(alloc),
             uses: 0,
+            reps: 0,
         }
     }
 
@@ -118,6 +134,7 @@ impl SoFar {
     pub(crate) fn push(&mut self, head: Head, gathered: Gathered) -> Result<(), AllocError>
         requires depth { gathered.depth < 512 }
         requires uses { self.old.uses + length gathered.uses ≤ most_uses }
+        requires reps { self.old.reps + rep_count head.payload ≤ most_reps }
         ensures { OnOk result (so_far_of self.new ≡ with_record (so_far_of self.old) head (gathered_of gathered)) }
     {
         let seen = Seen {
@@ -125,6 +142,7 @@ impl SoFar {
             depth: gathered.depth + 1,
         };
         let uses = gathered.uses.len() as u32;
+        let reps = reps_of(&head.payload);
         let record = Record {
             head,
             uses: gathered.uses,
@@ -138,6 +156,7 @@ impl SoFar {
             Err(_) => return Err(AllocError),
         }
         self.uses += uses;
+        self.reps += reps;
         Ok(())
     }
 }

@@ -197,7 +197,7 @@ impl UsesReader {
         requires { HasRoom so_far.now.uses self.old.gathered named }
         ensures { Takes (at_uses (stages.Location named) (bounds_of bounds) (so_far_of so_far.now) parent self.old.gathered) t.now (uses_left (bounds_of bounds) (so_far_of so_far.now) parent self.new) (IsWaitingUses so_far.now.uses self.new) (AreDoneUses so_far.now.uses self.new) result }
     {
-        let location = match ranged_due(0, u64::from(bounds.locations), t) {
+        let location = match ranged_due(0, u64::from(bounds.tables.locations), t) {
             Err(f) => return Err(ReadStop::Fault(f)),
             Ok(location) => location as u32,
         };

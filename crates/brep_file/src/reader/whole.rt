@@ -7,6 +7,7 @@ ghost use Rattle.std.specs.Prelude.{◌≡◌, IfOk, false, true};
 
 use crate::file::File;
 use crate::reader::sections::{begun_file, with_locations};
+use brep_tokens::laws::scanner_gives_tokens;
 use brep_tokens::{Next, ReadCode, ReadFault, ReadStop, Scanner};
 use entry_readers::fault_at;
 use std::alloc::{AllocError, Global};
@@ -71,6 +72,7 @@ fn closing_zero(s: &mut Scanner) -> Result<(), ReadFault>
 pub fn read_file(alloc: Global, bytes: Vec<u8>) -> Result<File, ReadStop>
     ensures { FileGiven result (read_text file_limits bytes.items) }
 {
+    scanner_gives_tokens();
     let mut s = match scanner_of(alloc, bytes) {
         Ok(s) => s,
         Err(_) => return Err(ReadStop::NoMemory),
@@ -79,14 +81,6 @@ pub fn read_file(alloc: Global, bytes: Vec<u8>) -> Result<File, ReadStop>
         Ok(version) => version,
         Err(f) => return Err(ReadStop::Fault(f)),
     };
-    if version != 1 {
-        return Err(ReadStop::Fault(ReadFault {
-            code: ReadCode::VersionNotRead,
-            offset: 0,
-            value: 0,
-            limit: 0,
-        }));
-    }
     let file = match with_locations(alloc, &mut s, begun_file(alloc, version)) {
         Ok(file) => file,
         Err(e) => return Err(e),

@@ -1,12 +1,19 @@
-use Rattle.std.proofs.Common.{◌≡◌, ◌+◌, ◌-◌, ◌<◌, ◌≤◌, List, [], ◌∷◌, length, Ok, Err, ap, sym, ◌∙◌, arith}
+use Rattle.std.proofs.Common.{◌≡◌, ◌+◌, ◌-◌, ◌<◌, ◌≤◌, List, ◌∷◌, length, Ok, refl, ap, sym, ◌∙◌, arith}
 use Rattle.std.proofs.lemmas.List.{length-append}
 use Rattle.brep_tokens.specs.declared.text.Token.{Token}
-use Rattle.entry_readers.specs.Reading.{more}
+use Rattle.tshape_data.specs.Sound.{rep_count}
 use Rattle.brep_file.specs.Many.{many_from}
-use Rattle.brep_file.specs.RecordLeft.{AreFew, bounds_of, gathered_of, most_uses, record_left, so_far_of}
+use Rattle.brep_file.specs.RecordLeft.{AreFew, HasFewReps, bounds_of, gathered_of, most_uses, record_left, so_far_of}
 use Rattle.brep_file.specs.RecordReading.{record_at, with_record}
 use Rattle.brep_file.proofs.Steps.{fresh, fresh_open, moved}
 use Rattle.brep_file.proofs.reader.records.RecordsReader.take.Goals as goal
+
+pub new-requires-clause-few : goal.new-requires-clause-few
+new-requires-clause-few c =
+    let took = rw c.in-Ok-Whole.field-0-is at c.in-Ok-Whole.ensures in
+    let few : HasFewReps c.args.self.now.so_far.reps c.done-head.result.0 = c.done-head.ensures.reps c.args.self.now.so_far.uses c.args.self.now.so_far.reps took.1 in
+    let reps : c.push.new.self.reps ≡ c.args.self.now.so_far.reps + rep_count c.done-head.result.0.payload = ap (λ z. z.reps) c.in-Ok.ensures in
+    omega (arith, few, reps)
 
 pub returns-else-self-eq0 : goal.returns-else-self-eq0
 returns-else-self-eq0 c =
@@ -16,23 +23,25 @@ returns-else-self-eq0 c =
     let head = c.done-head.result.0 in
     let made = gathered_of c.done-head.result.1 in
     let due : 0 < c.args.self.now.due - 1 = omega (arith, c.if-self-eq0.false) in
-    let left : (ts : List Token) → record_left b longer c.replace-reader.new.dest ts ≡ record_at b longer ts = λ ts. rw c.replace-reader.ensures.after (c.new.ensures.left b longer ts) in
-    let is_open : record_left b longer c.replace-reader.new.dest [] ≡ Err more = rw c.replace-reader.ensures.after (c.new.ensures.open b longer) in
     let took = rw c.in-Ok-Whole.field-0-is at c.in-Ok-Whole.ensures in
     let read : (rest : List Token) → record_left b s c.args.self.now.reader (c.args.t.now ∷ rest) ≡ Ok (with_record s head made, rest) =
-    λ rest. sym (took.0 rest) ∙ rw (← c.replace-reader.ensures.value) (c.done-head.ensures.left b s rest) in
-    let few : AreFew c.args.self.now.so_far.uses c.done-head.result.1 = c.done-head.ensures.few c.args.self.now.so_far.uses (rw c.replace-reader.ensures.value took.1) in
+    λ rest. sym (took.0 rest) ∙ c.done-head.ensures.left b s rest in
+    let few : AreFew c.args.self.now.so_far.uses c.done-head.result.1 = c.done-head.ensures.few c.args.self.now.so_far.uses c.args.self.now.so_far.reps took.1 in
+    let few_reps : HasFewReps c.args.self.now.so_far.reps head = c.done-head.ensures.reps c.args.self.now.so_far.uses c.args.self.now.so_far.reps took.1 in
     let seen : length longer.seen ≡ length s.seen + 1 = ap (λ z. length z.seen) c.in-Ok.ensures ∙ length-append s.seen _ in
     let uses : longer.uses ≡ s.uses + length made.uses = ap (λ z. z.uses) c.in-Ok.ensures in
+    let reps : longer.reps ≡ s.reps + rep_count head.payload = ap (λ z. z.reps) c.in-Ok.ensures in
     let within : longer.uses ≤ most_uses = omega (arith, uses, few.within) in (
-      λ rest. fresh (record_at b) (record_left b longer c.replace-reader.new.dest) longer (c.args.self.now.due - 1) due left rest
+      λ rest. fresh (record_at b) (record_left b longer c.new.result) longer (c.args.self.now.due - 1) due (λ ts. c.new.ensures.left longer ts refl) rest
           ∙ ap (λ z. many_from (record_at b) z (c.args.self.now.due - 1) rest) c.in-Ok.ensures
           ∙ sym (moved (record_at b) (record_left b s c.args.self.now.reader) s c.args.self.now.due c.requires.due (with_record s head made) (c.args.t.now ∷ rest) rest (read rest)),
-      fresh_open (record_at b) (record_left b longer c.replace-reader.new.dest) longer (c.args.self.now.due - 1) due is_open,
+      fresh_open (record_at b) (record_left b longer c.new.result) longer (c.args.self.now.due - 1) due (c.new.ensures.open b longer),
       record {
         due = due;
         count = omega (arith, seen, c.requires.count, c.requires.due);
+        version = c.requires.version;
         uses = within;
-        waits = rw c.replace-reader.ensures.after (c.new.ensures.waits longer.uses within);
+        reps = omega (arith, reps, few_reps);
+        waits = c.new.ensures.waits longer.uses within;
       },
     )
