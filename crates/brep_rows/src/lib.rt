@@ -4,9 +4,13 @@
 #[cfg(test)]
 mod copies;
 #[cfg(test)]
+mod edges;
+#[cfg(test)]
 mod faults;
 #[cfg(test)]
 mod locations;
+#[cfg(test)]
+mod models;
 #[cfg(test)]
 mod refusals;
 #[cfg(test)]
@@ -15,3 +19,5 @@ mod rewrites;
 mod runs;
 #[cfg(test)]
 mod tables;
+#[cfg(test)]
+mod unread;

@@ -2,6 +2,7 @@
 use crate::runs::{TWICE, desk_of_two, file_of, ran};
 use brep_desk::MemoryDesk;
 use brep_run::{LimitKind, Outcome, ScriptCode, ScriptFault};
+use brep_tokens::{ReadCode, ReadFault};
 use std::alloc::Global;
 use std::test::Fail;
 
@@ -193,11 +194,14 @@ fn other_commands_are_not_built(rt: HostRuntime) -> Result<(), Fail> {
             "{script}"
         );
     }
-    // The form of the file comes before the script.
-    assert_eq!(rt;
-        answer_of(alloc, "no file", "remove 3")?,
-        (Outcome::NotBuilt, false)
-    );
+    // The fault of the file comes before the script.
+    let none = Outcome::File(ReadFault {
+        code: ReadCode::NoVersion,
+        offset: 7,
+        value: 0,
+        limit: 0,
+    });
+    assert_eq!(rt; answer_of(alloc, "no file", "remove 3")?, (none, false));
     Ok(())
 }
 

@@ -4,7 +4,7 @@ use std::alloc::{AllocError, Global};
 use std::test::Fail;
 
 /// The tables of a cylinder up to its surfaces, as they are read and as they are written.
-const CURVES: &str = "CASCADE Topology V1, (c) Matra-Datavision
+pub(crate) const CURVES: &str = "CASCADE Topology V1, (c) Matra-Datavision
 Locations 0
 Curve2ds 6
 1 0 10 1 0
@@ -22,11 +22,11 @@ PolygonOnTriangulations 1
 ";
 
 /// A polygon on two lines, as a usual tool writes it.
-const POLYGON_READ: &str = "2 3 4\np 0.1 1 0 6.2831853071795862\n";
+pub(crate) const POLYGON_READ: &str = "2 3 4\np 0.1 1 0 6.2831853071795862\n";
 
-const POLYGON_WRITTEN: &str = "2 3 4 p 0.1 1 0 6.2831853071795862\n";
+pub(crate) const POLYGON_WRITTEN: &str = "2 3 4 p 0.1 1 0 6.2831853071795862\n";
 
-const SURFACES: &str = "Surfaces 3
+pub(crate) const SURFACES: &str = "Surfaces 3
 2 0 0 0 0 0 1 1 0 -0 -0 1 0 5
 1 0 0 10 0 0 1 1 0 -0 -0 1 0
 1 0 0 0 0 0 1 1 0 -0 -0 1 0
@@ -34,21 +34,21 @@ Triangulations 1
 ";
 
 /// A mesh of two triangles on four lines.
-const MESH_READ: &str = "4 2 1 0.1
+pub(crate) const MESH_READ: &str = "4 2 1 0.1
 5 0 0 5 0 0 5 0 10 5 0 10
 0 0 6.2831853071795862 0 0 10 6.2831853071795862 10
 1 2 4 1 4 3
 
 ";
 
-const MESH_WRITTEN: &str =
+pub(crate) const MESH_WRITTEN: &str =
     "4 2 1 0.1 5 0 0 5 0 0 5 0 10 5 0 10 0 0 6.2831853071795862 0 0 10 6.2831853071795862 10 1 2 4 1 4 3\n";
 
 const RECORDS: &str =
     "TShapes 2\nVe\n1e-07\n0 0 0\n0 0\n\n0101101\n*\nCo\n\n0011000\n+2 0 -2 0 *\n+1 0\n";
 
 /// The texts one after another.
-fn joined(alloc: Global, texts: &[&str]) -> Result<String, AllocError> {
+pub(crate) fn joined(alloc: Global, texts: &[&str]) -> Result<String, AllocError> {
     let mut all = String::new(alloc);
     for text in texts {
         all.push_str(text)?;

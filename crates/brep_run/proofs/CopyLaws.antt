@@ -10,6 +10,7 @@ use Rattle.expansion_laws.specs.Written.{flat, origins_of}
 use Rattle.brep_file.specs.declared.file.File.{File}
 use Rattle.brep_run.specs.declared.outcome.Outcome.{Outcome}
 use Rattle.brep_run.specs.declared.outcome.Outcome.TheVariants.{Done, Usage, NotBuilt, Script, Limit, ReadDesk, WriteDesk, NoMemory}
+use Rattle.brep_run.specs.declared.outcome.Outcome.TheVariants as outcomes
 use Rattle.brep_run.specs.Outcomes.{OnDone}
 use Rattle.brep_file.specs.PlainRecords.{plain_records, plain_use, expansion_of}
 use Rattle.brep_file.specs.Sound.{IsSound}
@@ -41,6 +42,7 @@ module _ (exact : ReadingIsExact) (stand : TextsStandForRoots) (t : Tells) (old 
   done_stands asked is Done h = subst (λ a. Expands t old new a) (sym is) (text_stands h.0 h.1 h.2)
   done_stands asked is Usage h = tt
   done_stands asked is NotBuilt h = tt
+  done_stands asked is (outcomes.File fault) h = tt
   done_stands asked is (Script fault) h = tt
   done_stands asked is (Limit which count) h = tt
   done_stands asked is (ReadDesk before after) h = tt
@@ -76,6 +78,7 @@ module _ (exact : ReadingIsExact) (are : (g : File) → IsSound g → RecordsAre
       (λ bytes text f g made spells. shared_in are f (expansion_of f) g text (subst (λ a. Expands t old new a) is h bytes text f made) spells)
   done_shares asked is Usage h = tt
   done_shares asked is NotBuilt h = tt
+  done_shares asked is (outcomes.File fault) h = tt
   done_shares asked is (Script fault) h = tt
   done_shares asked is (Limit which count) h = tt
   done_shares asked is (ReadDesk before after) h = tt

@@ -25,6 +25,8 @@ use Rattle.expansion_laws.specs.Fewest.{NoFileHasFewer}
 use Rattle.expansion_laws.specs.Walk.{RecordsAreTrees}
 use Rattle.expansion_laws.specs.Written.{IsWritten}
 use Rattle.expansion_laws.proofs.Members.{Contains-map_cases, Contains-flat_map_cases, Contains-cases, Contains-none, at_place}
+use Rattle.tshape_data.specs.Laws.{PlacesMove}
+use Rattle.tshape_data.specs.Places.{places_of}
 use Rattle.brep_file.specs.declared.uses.FileUse.{FileUse}
 use Rattle.brep_file.specs.declared.records.Record.{Record}
 use Rattle.brep_file.specs.declared.file.File.{File}
@@ -33,8 +35,7 @@ use Rattle.brep_file.specs.Sound.{IsUse, IsSound}
 use Rattle.brep_run.specs.Dress.{head_for, made_head, rebuilt}
 use Rattle.brep_run.specs.WrittenFile.{locations_under, words_of_data, words_of_tree, words_under}
 use Rattle.brep_run.specs.Copies.{CanBeWritten}
-use Rattle.brep_run.proofs.ShortTokens.{each-contains}
-use Rattle.brep_run.proofs.WrittenSound.{no-data_words}
+use Rattle.brep_run.proofs.WrittenSound.{data-within, place-over}
 use Rattle.brep_run.proofs.NumberedRecords.{NamesAboveIts, map-from_end, names_from-numbers}
 
 -- a tree relabelled by its own origins is the tree
@@ -143,12 +144,7 @@ module _ (f : File) where
           let count = count-plain in
           omega (arith, low, high, count)
 
-      module _ (places : PlacesHaveWords) (written : IsWritten (expansion_of f) (flat (expansion_of f).tree)) where
-        place-over : (k : ℕ) → k ≤ length f.locations → IsWordOver (length (datums_of f.locations)) (word_of_place f.locations k)
-        place-over k le =
-            each-contains (IsWordOver (length (datums_of f.locations))) (words_of f.locations) (word_of_place f.locations k)
-            (places.held f.locations sound.tables.locations) (word-member f.locations k le)
-
+      module _ (move : PlacesMove) (places : PlacesHaveWords) (written : IsWritten (expansion_of f) (flat (expansion_of f).tree)) where
         -- the words under the root are words of places
         use-place : (x : Tree) (u : Use) → Contains (subtrees (expansion_of f).tree) x → Contains (uses x) u → (k : ℕ) × (k ≤ length f.locations) × (word_of_place f.locations k ≡ u.word)
         use-place x u m k = (let c = comes-from x u (stands-below x m) k in (c.file_use.location, c.is_use.location, ap (λ (v : Use). v.word) c.is))
@@ -156,8 +152,9 @@ module _ (f : File) where
         word-of_place : (w : List Pair) → Contains (words_under f (expansion_of f)) w → Contains (words_of f.locations) w
         word-of_place w m = elim (Contains-append_cases (flat_map (words_of_tree f) (flat (expansion_of f).tree)) ((expansion_of f).word ∷ []) w m) [
           | inl k ↦ (let from = Contains-flat_map_cases (words_of_tree f) w (flat (expansion_of f).tree) k in
-              elim (Contains-append_cases (words_of_data (head_for f from.0).payload) (map (λ (v : Use). v.word) (uses from.0)) w from.2) [
-                | inl none ↦ absurd (no-data_words (head_for f from.0).payload w none)
+              elim (Contains-append_cases (words_of_data f (head_for f from.0)) (map (λ (v : Use). v.word) (uses from.0)) w from.2) [
+                | inl own ↦ (let of = Contains-map_cases (word_of_place f.locations) w (places_of f.version (head_for f from.0).payload) own in
+                    subst (Contains (words_of f.locations)) of.2 (word-member f.locations of.0 (data-within move f sound from.0 of.0 of.1)))
                 | inr l ↦ (let used = Contains-map_cases (λ (v : Use). v.word) w (uses from.0) l in
                     let place = use-place from.0 used.0 (written.lists.stand from.0 from.1) used.1 in
                     subst (Contains (words_of f.locations)) (place.2 ∙ used.2) (word-member f.locations place.0 place.1))
@@ -181,8 +178,8 @@ module _ (f : File) where
         expansion-writable fewest = record {
           origins = λ x m. inr (stands-below x m).number;
           in_order = in-order;
-          words = λ x u m k. (let place = use-place x u m k in subst (IsWordOver (length (datums_of f.locations))) place.2 (place-over place.0 place.1));
-          root_word = place-over f.root.location sound.root_location;
+          words = λ x u m k. (let place = use-place x u m k in subst (IsWordOver (length (datums_of f.locations))) place.2 (place-over places f sound place.0 place.1));
+          root_word = place-over places f sound f.root.location sound.root_location;
           few_words = few-locations;
           shallow = sound.depths f.root.number sound.root;
           countable = count-flat fewest;

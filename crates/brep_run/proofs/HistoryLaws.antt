@@ -1,22 +1,20 @@
 -- The history of a removal is one whose text can be read back.
-use Rattle.std.proofs.Common.{◌≡◌, ◌<◌, ◌≤◌, ◌+◌, ◌^◌, refl, sym, ◌∙◌, ap, subst, arith, inl, inr}
-use Rattle.std.specs.Prelude.{ℕ, suc, ◌⊎◌, ◌==◌, if◌then◌else◌, nat_lt, true, List, [], ◌∷◌, map, length, reverse, Contains}
+use Rattle.std.proofs.Common.{◌≡◌, ◌<◌, ◌≤◌, ◌+◌, refl, sym, ◌∙◌, ap, subst, arith, inl, inr}
+use Rattle.std.specs.Prelude.{ℕ, ◌==◌, nat_lt, true, List, [], ◌∷◌, map, length, reverse, Contains}
 use Rattle.std.specs.List.{AllByRecursion}
 use Rattle.std.proofs.lemmas.List.{length-map, length-reverse, reverse-reverse}
 use Rattle.std.proofs.lemmas.Bool.{eqb-true, lt-ltb}
 use Rattle.expansion_laws.specs.Trees.{Tree, Use, origin}
-use Rattle.expansion_laws.specs.Measures.{subtrees}
 use Rattle.expansion_laws.specs.Expansion.{IsNumberOf}
 use Rattle.expansion_laws.specs.Written.{flat, IsWritten}
 use Rattle.expansion_laws.proofs.Members.{by_test, Contains-here, Contains-there, Contains-none, Contains-map_cases, Contains-reverse}
 use Rattle.history_text.specs.declared.file.HistoryFile.{HistoryFile}
 use Rattle.history_text.specs.HistoryText.{Ascend, is_pair_below, IsShort, IsPairOf, ArePairs, IsHistory}
-use Rattle.step_history.specs.History.{modified}
 use Rattle.brep_file.specs.declared.file.File.{File}
 use Rattle.brep_file.specs.Sound.{IsSound}
-use Rattle.brep_run.specs.Copies.{CanBeWritten, IsTextFor, TextsStandForRoots}
-use Rattle.brep_run.specs.Removal.{Ascends, RemovalDone, origins_written, history_after, ArePairsOf}
-use Rattle.brep_run.specs.Rewrite.{AreTextsOf, IsHistoryOf}
+use Rattle.brep_run.specs.Copies.{IsTextFor, TextsStandForRoots}
+use Rattle.brep_run.specs.Removal.{Ascends, RemovalDone}
+use Rattle.brep_run.specs.Rewrite.{AreTextsOf}
 use Rattle.history_text.specs.HistoryText as history_text
 
 each-of : {X : Type 0} (P : X → Type 0) (xs : List X) → ((x : X) → Contains xs x → P x) → AllByRecursion P xs

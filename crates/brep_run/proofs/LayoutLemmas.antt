@@ -1,21 +1,17 @@
--- A sound file's layout: each of its words is plain, and in their order they are the file's spelling.
-use Rattle.std.proofs.Common.{◌≡◌, ◌-◌, refl, sym, ◌∙◌, ap, arith, inl, get_or}
-use Rattle.std.specs.Prelude.{ℕ, zero, suc, Bool, true, false, List, [], ◌∷◌, ◌++◌, length, map, take, drop, codes, slice_get}
-use Rattle.std.specs.List.{AllByRecursion, flat_map, list_all}
+-- A sound file's layout: its words, split into tokens, are the file's spelling.
+use Rattle.std.proofs.Common.{◌≡◌, ◌-◌, refl, ◌∙◌, ap, arith, inl, get_or}
+use Rattle.std.specs.Prelude.{ℕ, true, List, [], ◌∷◌, ◌++◌, length, map, codes, slice_get}
+use Rattle.std.specs.List.{AllByRecursion, flat_map}
 use Rattle.std.specs.Fmt.{decimal}
-use Rattle.std.proofs.lemmas.List.{append_assoc, append-nil, take-append-drop}
+use Rattle.std.proofs.lemmas.List.{append-nil}
 use Rattle.std.proofs.lemmas.List.Concat.{flat_map-append}
 use Rattle.std.proofs.lemmas.List.Elements.{recursion_from_All}
 use Rattle.std.proofs.lemmas.Option.{slice_get-get_or}
-use Rattle.orientation.specs.declared.kind.Kind.{Kind}
-use Rattle.orientation.specs.declared.kind.Kind.TheVariants.{Ve, Ed, Wi, Fa, Sh, So, CS, Co}
 use Rattle.orientation.specs.declared.turn.Turn.{Turn}
 use Rattle.orientation.specs.declared.turn.Turn.TheVariants.{Forward, Reversed, Internal, External}
-use Rattle.orientation.specs.Kinds.{name_of}
 use Rattle.orientation.specs.Turns.{sign_of}
-use Rattle.brep_tokens.specs.Bytes.{is_flag, is_sign}
-use Rattle.brep_tokens.specs.Written.{IsPlain, WrittenIsRead}
-use Rattle.entry_readers.specs.Begins.{IsDecimal}
+use Rattle.brep_tokens.specs.Bytes.{is_sign}
+use Rattle.brep_tokens.specs.Written.{IsDarkWord, IsPlain, WrittenIsRead, split_word}
 use Rattle.location_table.specs.declared.entry.LocationEntry.{LocationEntry}
 use Rattle.location_table.specs.Locations.{AreSoundAfter, IsSoundLocation, spell_location}
 use Rattle.curve_tables.specs.declared.curve2.Curve2.{Curve2}
@@ -31,15 +27,16 @@ use Rattle.surface_tables.specs.declared.surface.Surface.{Surface}
 use Rattle.surface_tables.specs.Sound.{IsSoundSurface}
 use Rattle.surface_tables.specs.Spelling.{spell_surface}
 use Rattle.brep_file.specs.declared.uses.FileUse.{FileUse}
-use Rattle.brep_file.specs.declared.head.Flags.{Flags}
-use Rattle.brep_file.specs.declared.head.Payload.{Payload}
-use Rattle.brep_file.specs.declared.head.Payload.TheVariants.{Vertex, Nothing}
 use Rattle.brep_file.specs.declared.records.Record.{Record}
 use Rattle.brep_file.specs.declared.file.File.{File}
-use Rattle.brep_file.specs.Spelling.{spell_use, spell_flags, flag_code, spell_payload, spell_record, spell_tables, spell_file, section}
-use Rattle.brep_file.specs.Sound.{AreSoundTables, IsShaped, IsSound}
+use Rattle.tshape_data.specs.Laws.{LinesAreExact}
+use Rattle.tshape_data.specs.Lines.{head_lines}
+use Rattle.tshape_data.specs.Sound.{IsSoundHead}
+use Rattle.tshape_data.specs.Spelling.{spell_head}
+use Rattle.brep_file.specs.Spelling.{spell_use, spell_record, spell_tables, section}
+use Rattle.brep_file.specs.Sound.{AreSoundTables, IsSound, sizes_of}
 use Rattle.brep_file.specs.Reads.{Spells}
-use Rattle.brep_run.specs.Layout.{Line, payload_lines, record_lines, section_lines, location_lines, table_lines, shape_lines, file_lines, layout}
+use Rattle.brep_run.specs.Layout.{Line, heading, record_lines, section_lines, location_lines, table_lines, shape_lines, file_lines, layout}
 
 -- ---- the words in their order
 abbrev words_of : List Line → List (List ℕ)
@@ -47,28 +44,6 @@ words_of lines = flat_map (λ words. words) lines
 
 words_of-append : (a b : List Line) → words_of (a ++ b) ≡ words_of a ++ words_of b
 words_of-append a b = flat_map-append (λ words. words) a b
-
-payload-words : (p : Payload) → words_of (payload_lines p) ≡ spell_payload p
-payload-words (Vertex d) = sym (append_assoc (take 1 d.texts) (drop 1 d.texts) (codes "0" ∷ codes "0" ∷ [])) ∙ ap (λ l. l ++ codes "0" ∷ codes "0" ∷ []) (take-append-drop 1 d.texts)
-payload-words Nothing = refl
-
--- the lines after the data
-abbrev last_lines : Record → List Line
-last_lines r = [] ∷ (spell_flags r.head.flags ∷ []) ∷ (flat_map spell_use r.uses ++ codes "*" ∷ []) ∷ []
-
-record-words : (r : Record) → words_of (record_lines r) ≡ spell_record r
-record-words r =
-    let uses : List (List ℕ) = flat_map spell_use r.uses ++ codes "*" ∷ [] in
-    let flags : List (List ℕ) = spell_flags r.head.flags ∷ [] in
-    ap (λ l. name_of r.head.kind ∷ l)
-    (words_of-append (payload_lines r.head.payload) (last_lines r)
-    ∙ ap (λ l. l ++ (spell_flags r.head.flags ∷ (uses ++ []))) (payload-words r.head.payload)
-    ∙ ap (λ l. spell_payload r.head.payload ++ (spell_flags r.head.flags ∷ l)) (append-nil uses)
-    ∙ sym (append_assoc (spell_payload r.head.payload) flags uses))
-
-records-words : (rs : List Record) → words_of (flat_map record_lines rs) ≡ flat_map spell_record rs
-records-words [] = refl
-records-words (r ∷ rs) = words_of-append (record_lines r) (flat_map record_lines rs) ∙ (λ i. record-words r i ++ records-words rs i)
 
 words_of-map : {A : Type 0} (spell : A → Line) (entries : List A) → words_of (map spell entries) ≡ flat_map spell entries
 words_of-map spell [] = refl
@@ -101,20 +76,16 @@ tables-words f =
     (with-section (codes "Surfaces") spell_surface f.surfaces _ _
     (section-words (codes "Triangulations") spell_mesh f.meshes))))))
 
-shapes-words : (f : File) → words_of (shape_lines f) ≡ section (codes "TShapes") spell_record f.records ++ spell_use f.root
-shapes-words f =
-    ap (λ l. codes "TShapes" ∷ decimal (length f.records) ∷ l)
-    (words_of-append (flat_map record_lines f.records) (spell_use f.root ∷ []) ∙ (λ i. records-words f.records i ++ append-nil (spell_use f.root) i))
-
-file-words : (f : File) → words_of (file_lines f) ≡ spell_file f
-file-words f = words_of-append (location_lines f.locations ++ table_lines f) (shape_lines f) ∙ (λ i. tables-words f i ++ shapes-words f i)
-
 -- ---- each word is plain
 abbrev ArePlain : List (List ℕ) → Type 0
 ArePlain words = AllByRecursion IsPlain words
 
 abbrev AreAllPlain : List Line → Type 0
 AreAllPlain lines = AllByRecursion ArePlain lines
+
+-- the words of the lines are dark, and split into tokens they are these
+abbrev Spell : List Line → List (List ℕ) → Type 0
+Spell lines tokens = AllByRecursion (AllByRecursion IsDarkWord) lines × (flat_map (flat_map split_word) lines ≡ tokens)
 
 pub each-append : {X : Type 0} (P : X → Type 0) (a b : List X) → AllByRecursion P a → AllByRecursion P b → AllByRecursion P (a ++ b)
 each-append P [] b h k = k
@@ -125,45 +96,21 @@ pub each-flat_map : {X Y : Type 0} (Q : X → Type 0) (P : Y → Type 0) (f : X 
 each-flat_map Q P f h [] are = tt
 each-flat_map Q P f h (x ∷ xs) are = each-append P (f x) (flat_map f xs) (h x are.0) (each-flat_map Q P f h xs are.1)
 
-each-take : {X : Type 0} (P : X → Type 0) (n : ℕ) (xs : List X) → AllByRecursion P xs → AllByRecursion P (take n xs)
-each-take P zero xs h = tt
-each-take P (suc n) [] h = tt
-each-take P (suc n) (x ∷ xs) h = (h.0, each-take P n xs h.1)
-
-each-drop : {X : Type 0} (P : X → Type 0) (n : ℕ) (xs : List X) → AllByRecursion P xs → AllByRecursion P (drop n xs)
-each-drop P zero xs h = h
-each-drop P (suc n) [] h = tt
-each-drop P (suc n) (x ∷ xs) h = each-drop P n xs h.1
+spells-append : (a b : List Line) (s t : List (List ℕ)) → Spell a s → Spell b t → Spell (a ++ b) (s ++ t)
+spells-append a b s t h k = (
+  each-append (AllByRecursion IsDarkWord) a b h.0 k.0,
+  flat_map-append (flat_map split_word) a b ∙ (λ i. h.1 i ++ k.1 i),
+)
 
 each-any : {X : Type 0} (xs : List X) → AllByRecursion (λ x. Unit {0}) xs
 each-any [] = tt
 each-any (x ∷ xs) = (tt, each-any xs)
-
-name-plain : (k : Kind) → IsPlain (name_of k)
-name-plain Ve = refl
-name-plain Ed = refl
-name-plain Wi = refl
-name-plain Fa = refl
-name-plain Sh = refl
-name-plain So = refl
-name-plain CS = refl
-name-plain Co = refl
 
 sign-is : (t : Turn) → is_sign (sign_of t) ≡ true
 sign-is Forward = refl
 sign-is Reversed = refl
 sign-is Internal = refl
 sign-is External = refl
-
-flag-is : (b : Bool) → is_flag (flag_code b) ≡ true
-flag-is true = refl
-flag-is false = refl
-
-flags-are : (f : Flags) → list_all is_flag (spell_flags f) ≡ true
-flags-are f = rw (flag-is f.free, flag-is f.modified, flag-is f.checked, flag-is f.orientable, flag-is f.closed, flag-is f.infinite, flag-is f.convex) refl
-
-abbrev HasShape : Record → Type 0
-HasShape r = IsShaped r.head.kind r.head.payload
 
 -- the tokens of sound entries are plain words
 pub record EntriesArePlain : Type 0 where
@@ -181,42 +128,14 @@ map-plain IsSoundEntry spell h [] sound = tt
 map-plain IsSoundEntry spell h (e ∷ entries) sound = (h e sound.0, map-plain IsSoundEntry spell h entries sound.1)
 
 module _ (law : WrittenIsRead) (plain : EntriesArePlain) where
-  texts-plain : (texts : List (List ℕ)) → AllByRecursion IsDecimal texts → ArePlain texts
-  texts-plain [] are = tt
-  texts-plain (t ∷ texts) are = (law.decimals t are.0, texts-plain texts are.1)
-
-  payload-plain : (k : Kind) (p : Payload) → IsShaped k p → AreAllPlain (payload_lines p)
-  payload-plain Ve (Vertex d) shape = (
-    texts-plain (take 1 d.texts) (each-take IsDecimal 1 d.texts shape.1),
-    (texts-plain (drop 1 d.texts) (each-drop IsDecimal 1 d.texts shape.1), ((refl, (refl, tt)), tt)),
-  )
-  payload-plain Ve Nothing shape = tt
-  payload-plain Co (Vertex d) shape = absurd shape
-  payload-plain Co Nothing shape = tt
-  payload-plain Ed p shape = absurd shape
-  payload-plain Wi p shape = absurd shape
-  payload-plain Fa p shape = absurd shape
-  payload-plain Sh p shape = absurd shape
-  payload-plain So p shape = absurd shape
-  payload-plain CS p shape = absurd shape
+  plain-spells : (lines : List Line) (tokens : List (List ℕ)) → AreAllPlain lines → words_of lines ≡ tokens → Spell lines tokens
+  plain-spells lines tokens are same = (let law_of = law.plain_lines lines are in (law_of.0, law_of.1 ∙ same))
 
   use-plain : (u : FileUse) → ArePlain (spell_use u)
   use-plain u = (law.use_signs (sign_of u.turn) u.number (sign-is u.turn), (law.numbers u.location, tt))
 
   uses-plain : (us : List FileUse) → ArePlain (flat_map spell_use us)
   uses-plain us = each-flat_map (λ u. Unit {0}) IsPlain spell_use (λ u any. use-plain u) us (each-any us)
-
-  record-plain : (r : Record) → HasShape r → AreAllPlain (record_lines r)
-  record-plain r shape = (
-    (name-plain r.head.kind, tt),
-    each-append ArePlain (payload_lines r.head.payload) (last_lines r) (payload-plain r.head.kind r.head.payload shape) (
-      tt,
-      (
-        (law.flags (spell_flags r.head.flags) (omega arith) (flags-are r.head.flags), tt),
-        (each-append IsPlain (flat_map spell_use r.uses) (codes "*" ∷ []) (uses-plain r.uses) (refl, tt), tt),
-      ),
-    ),
-  )
 
   locations-plain : (before entries : List LocationEntry) → AreSoundAfter before entries → AreAllPlain (map spell_location entries)
   locations-plain before [] sound = tt
@@ -238,26 +157,49 @@ module _ (law : WrittenIsRead) (plain : EntriesArePlain) where
       (each-append ArePlain (section_lines (codes "Surfaces") spell_surface f.surfaces) _ (section-plain (codes "Surfaces") refl IsSoundSurface spell_surface plain.surfaces f.surfaces sound.surfaces.entries)
       (section-plain (codes "Triangulations") refl IsSoundMesh spell_mesh plain.meshes f.meshes sound.meshes.entries))))))
 
-  shapes-plain : (f : File) → AllByRecursion HasShape f.records → AreAllPlain (shape_lines f)
-  shapes-plain f shapes = (
-    (refl, (law.numbers (length f.records), tt)),
-    each-append ArePlain (flat_map record_lines f.records) (spell_use f.root ∷ [])
-        (each-flat_map HasShape ArePlain record_lines record-plain f.records shapes) (use-plain f.root, tt),
-  )
+  -- ---- lines with the tokens that they have
+  tables-are : (f : File) → AreSoundTables f → Spell (location_lines f.locations ++ table_lines f) (spell_tables f)
+  tables-are f sound = plain-spells (location_lines f.locations ++ table_lines f) (spell_tables f) (tables-plain f sound) (tables-words f)
 
-  sound-shapes : (f : File) → IsSound f → AllByRecursion HasShape f.records
-  sound-shapes f sound = recursion_from_All HasShape f.records (λ k d lt.
-      let back : length f.records - (length f.records - k) ≡ k = omega (arith, lt) in
-      (sound.records (length f.records - k) (get_or f.records k d) (omega (arith, lt), omega arith)
-      (ap (λ i. slice_get f.records i) back ∙ slice_get-get_or f.records k d lt)).shaped)
+  uses-line : (us : List FileUse) → Spell ((flat_map spell_use us ++ codes "*" ∷ []) ∷ []) (flat_map spell_use us ++ codes "*" ∷ [])
+  uses-line us =
+      plain-spells ((flat_map spell_use us ++ codes "*" ∷ []) ∷ []) (flat_map spell_use us ++ codes "*" ∷ [])
+      (each-append IsPlain (flat_map spell_use us) (codes "*" ∷ []) (uses-plain us) (refl, tt), tt) (append-nil (flat_map spell_use us ++ codes "*" ∷ []))
 
-  file-plain : (f : File) → IsSound f → AreAllPlain (file_lines f)
-  file-plain f sound =
-      each-append ArePlain (location_lines f.locations ++ table_lines f) (shape_lines f) (tables-plain f sound.tables) (shapes-plain f (sound-shapes f sound))
+  module _ (heads : LinesAreExact) (f : File) where
+    abbrev HasHead : Record → Type 0
+    HasHead r = IsSoundHead (sizes_of f) f.version r.head
 
-  -- the layout of a sound file spells it
-  pub layout-spells : (f : File) → IsSound f → Spells (layout f) f
-  layout-spells f sound =
-      let lines = law.plain_lines (file_lines f) (file-plain f sound) in
-      let read = law.read f.version (file_lines f) (inl sound.version) lines.0 in
-      record { tokens = (read.0, read.1, inl (read.2 ∙ lines.1 ∙ file-words f)); sound = sound }
+    record-lines : (r : Record) → HasHead r → Spell (record_lines f.version r) (spell_record f.version r)
+    record-lines r sound =
+        let head = heads (sizes_of f) f.version r.head sound in
+        spells-append (head_lines f.version r.head) ((flat_map spell_use r.uses ++ codes "*" ∷ []) ∷ []) (spell_head f.version r.head) (flat_map spell_use r.uses ++ codes "*" ∷ [])
+        (head.dark, head.tokens) (uses-line r.uses)
+
+    records-lines : (rs : List Record) → AllByRecursion HasHead rs → Spell (flat_map (record_lines f.version) rs) (flat_map (spell_record f.version) rs)
+    records-lines [] sound = (tt, refl)
+    records-lines (r ∷ rs) sound =
+        spells-append (record_lines f.version r) (flat_map (record_lines f.version) rs) (spell_record f.version r) (flat_map (spell_record f.version) rs)
+        (record-lines r sound.0) (records-lines rs sound.1)
+
+    shapes-lines : AllByRecursion HasHead f.records → Spell (shape_lines f) (section (codes "TShapes") (spell_record f.version) f.records ++ spell_use f.root)
+    shapes-lines sound =
+        spells-append (heading (codes "TShapes") (length f.records) ∷ []) (flat_map (record_lines f.version) f.records ++ spell_use f.root ∷ [])
+        (heading (codes "TShapes") (length f.records)) (flat_map (spell_record f.version) f.records ++ spell_use f.root)
+        (plain-spells (heading (codes "TShapes") (length f.records) ∷ []) (heading (codes "TShapes") (length f.records)) ((refl, (law.numbers (length f.records), tt)), tt) refl)
+        (spells-append (flat_map (record_lines f.version) f.records) (spell_use f.root ∷ []) (flat_map (spell_record f.version) f.records) (spell_use f.root)
+        (records-lines f.records sound) (plain-spells (spell_use f.root ∷ []) (spell_use f.root) (use-plain f.root, tt) (append-nil (spell_use f.root))))
+
+    sound-heads : IsSound f → AllByRecursion HasHead f.records
+    sound-heads sound = recursion_from_All HasHead f.records (λ k d lt.
+        let back : length f.records - (length f.records - k) ≡ k = omega (arith, lt) in
+        (sound.records (length f.records - k) (get_or f.records k d) (omega (arith, lt), omega arith)
+        (ap (λ i. slice_get f.records i) back ∙ slice_get-get_or f.records k d lt)).head)
+
+    -- the layout of a sound file spells it
+    pub layout-spells : IsSound f → Spells (layout f) f
+    layout-spells sound =
+        let lines = spells-append (location_lines f.locations ++ table_lines f) (shape_lines f) (spell_tables f)
+        (section (codes "TShapes") (spell_record f.version) f.records ++ spell_use f.root) (tables-are f sound.tables) (shapes-lines (sound-heads sound)) in
+        let read = law.read f.version (file_lines f) sound.version lines.0 in
+        record { tokens = (read.0, read.1, inl (read.2 ∙ lines.1)); sound = sound }

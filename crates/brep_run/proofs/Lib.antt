@@ -34,3 +34,4 @@ pub mod RewriteLaws
 pub mod WordLaws
 pub mod Reading
 pub mod ReadFiles
+pub mod FaultLaws

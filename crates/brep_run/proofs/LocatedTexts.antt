@@ -1,33 +1,24 @@
 -- The locations that are met, and their numbers, in place of the words of trees.
-use Rattle.std.proofs.Common.{◌≡◌, ◌<◌, ◌-◌, refl, sym, ◌∙◌, ap, subst, arith}
-use Rattle.std.specs.Prelude.{ℕ, suc, Some, List, [], ◌∷◌, ◌++◌, map, length, slice_index}
+use Rattle.std.proofs.Common.{◌≡◌, ◌<◌, refl, sym, ◌∙◌, ap, arith}
+use Rattle.std.specs.Prelude.{ℕ, suc, List, [], ◌∷◌, ◌++◌, map, length, slice_index}
 use Rattle.std.specs.List.{flat_map}
 use Rattle.std.specs.Option.{option_map_or}
 use Rattle.std.proofs.lemmas.List.{map-append}
 use Rattle.std.proofs.lemmas.Simd.{map-map}
-use Rattle.location_words.specs.declared.pair.Pair.{Pair}
 use Rattle.location_table.specs.Words.{datums_of, word_of_place}
 use Rattle.written_locations.specs.declared.written.WrittenLocations.{WrittenLocations}
 use Rattle.written_locations.specs.Further.{further_words, number_of_word}
-use Rattle.written_locations.specs.Met.{further_of}
-use Rattle.expansion_laws.specs.Trees.{Tree, Use, uses}
+use Rattle.written_locations.specs.Met.{further_of, location_number}
+use Rattle.expansion_laws.specs.Trees.{Use, uses}
 use Rattle.expansion_laws.specs.Expansion.{IsNumberOf}
-use Rattle.expansion_laws.specs.Written.{flat}
-use Rattle.brep_file.specs.declared.head.Payload.{Payload}
-use Rattle.brep_file.specs.declared.head.Payload.TheVariants.{Vertex, Nothing}
+use Rattle.tshape_data.specs.Places.{places_of}
 use Rattle.brep_file.specs.declared.uses.FileUse.{FileUse}
-use Rattle.brep_file.specs.declared.records.Record.{Record}
 use Rattle.brep_file.specs.declared.file.File.{File}
-use Rattle.brep_file.specs.PlainRecords.{record_of, tree_of_record, expansion_of}
-use Rattle.brep_run.specs.Dress.{head_for}
+use Rattle.brep_file.specs.PlainRecords.{tree_of_record, expansion_of}
 use Rattle.brep_run.specs.WrittenFile.{words_of_data, words_of_tree, words_under, location_under}
-use Rattle.brep_run.specs.Completion.{NumbersTell, ArePlaced, Completes, AreLocated, use_of_tree, locations_of_number, locations_used, location_number}
+use Rattle.brep_run.specs.Completion.{NumbersTell, ArePlaced, Completes, AreLocated, use_of_tree, locations_in, locations_of_number, locations_used}
 use Rattle.brep_run.proofs.CopyLemmas.{record-at}
-use Rattle.brep_run.proofs.Numbering.{uses_of_tree}
-
-no_data : (p : Payload) → words_of_data p ≡ []
-no_data (Vertex d) = refl
-no_data Nothing = refl
+use Rattle.brep_run.proofs.Numbering.{head_is, uses_of_tree}
 
 module _ (f : File) (tell : NumbersTell f) where
   -- the words of a record's locations are those of its tree
@@ -36,10 +27,10 @@ module _ (f : File) (tell : NumbersTell f) where
       let at = record-at f k n in
       let used : map (λ (u : Use). u.word) (uses (tree_of_record f k)) ≡ map (λ (u : FileUse). word_of_place f.locations u.location) at.0.uses =
       ap (map (λ (u : Use). u.word)) (uses_of_tree f tell k at.0 n at.1) ∙ map-map (λ (u : Use). u.word) (use_of_tree f) at.0.uses in
-      ap (λ o. map (word_of_place f.locations) (option_map_or (λ (r : Record). map (λ (u : FileUse). u.location) r.uses) o [])) at.1
-      ∙ map-map (word_of_place f.locations) (λ (u : FileUse). u.location) at.0.uses
-      ∙ sym used
-      ∙ ap (λ l. l ++ map (λ (u : Use). u.word) (uses (tree_of_record f k))) (sym (no_data (head_for f (tree_of_record f k)).payload))
+      ap (λ o. map (word_of_place f.locations) (option_map_or (locations_in f.version) o [])) at.1
+      ∙ map-append (word_of_place f.locations) (places_of f.version at.0.head.payload) (map (λ (u : FileUse). u.location) at.0.uses)
+      ∙ ap (λ l. words_of_data f at.0.head ++ l) (map-map (word_of_place f.locations) (λ (u : FileUse). u.location) at.0.uses ∙ sym used)
+      ∙ ap (λ h. words_of_data f h ++ map (λ (u : Use). u.word) (uses (tree_of_record f k))) (sym (head_is f tell k at.0 n at.1))
 
   words-of_numbers : (ns : List ℕ) → ((i : ℕ) → i < length ns → IsNumberOf (length f.records) (slice_index ns i)) →
       map (word_of_place f.locations) (flat_map (locations_of_number f) ns) ≡ flat_map (words_of_tree f) (map (tree_of_record f) ns)

@@ -1,14 +1,14 @@
 -- The steps of loops over locations and over the entries of tables.
-use Rattle.std.proofs.Common.{◌≡◌, ◌<◌, ◌≤◌, ◌+◌, ◌-◌, refl, sym, ◌∙◌, ap, subst, arith, add-one, get_or, inl, inr}
-use Rattle.std.specs.Prelude.{ℕ, zero, suc, Bool, true, false, if◌then◌else◌, Some, List, [], ◌∷◌, ◌++◌, All, map, take, length, slice_get, slice_index, slice_index_or, Contains, codes}
+use Rattle.std.proofs.Common.{◌≡◌, ◌<◌, ◌≤◌, ◌+◌, refl, sym, ◌∙◌, ap, subst, arith, add-one}
+use Rattle.std.specs.Prelude.{ℕ, Bool, true, false, if◌then◌else◌, Some, List, [], ◌∷◌, ◌++◌, All, map, take, length, slice_get, slice_index, slice_index_or, Contains, codes}
 use Rattle.std.specs.List.{AllByRecursion, flat_map, join_with_byte}
 use Rattle.std.specs.Option.{option_map_or}
 use Rattle.std.specs.Fmt.{decimal, digits, signed_decimal}
 use Rattle.std.specs.Iterator.{Drains, Yields, YieldsFirst}
 use Rattle.std.proofs.Math.Seq.{take-suc}
 use Rattle.std.proofs.lemmas.Grind.{flat_map-append}
-use Rattle.std.proofs.lemmas.List.{append_assoc, append-nil, map-append, length-map}
-use Rattle.std.proofs.lemmas.List.Elements.{All-from_recursion, All-contains, Contains-get_or, Contains-append_left}
+use Rattle.std.proofs.lemmas.List.{append_assoc, append-nil, map-append}
+use Rattle.std.proofs.lemmas.List.Elements.{All-from_recursion, All-contains_itself, All-weaker, Contains-get_or, Contains-append_left, Contains-append_right}
 use Rattle.brep_tokens.specs.Written.{line_text, lines_text}
 use Rattle.entry_readers.specs.Spelled.{AreShort}
 use Rattle.location_words.specs.declared.pair.Pair.{Pair}
@@ -16,26 +16,27 @@ use Rattle.location_table.specs.declared.entry.LocationEntry.{LocationEntry}
 use Rattle.location_table.specs.declared.entry.LocationEntry.TheVariants.{Datum, Product}
 use Rattle.location_table.specs.Locations.{factor, spell_factor, spell_location}
 use Rattle.location_table.specs.Spell.{CanSpellLocation}
-use Rattle.location_table.specs.Words.{datums_of, word_of_place}
+use Rattle.location_table.specs.Words.{datums_of}
 use Rattle.location_table.specs.Written.{product_of}
 use Rattle.written_locations.specs.declared.written.WrittenLocations.{WrittenLocations}
-use Rattle.written_locations.specs.Further.{further_words, with_word}
-use Rattle.written_locations.specs.Met.{further_of, word_at, HasMet, IsNumbering, Meets}
+use Rattle.written_locations.specs.Met.{further_of, HasMet, IsNumbering, Meets}
 use Rattle.written_locations.proofs.Meeting.{datums-few, few-further, meets-more}
 use Rattle.expansion_laws.specs.Expansion.{IsNumberOf}
-use Rattle.expansion_laws.proofs.Members.{Contains-at, Contains-flat_map, Contains-map, take-at}
+use Rattle.expansion_laws.proofs.Members.{Contains-flat_map, Contains-map, take-at}
 use Rattle.curve_tables.specs.Spelling.{spelling2, spelling3}
 use Rattle.mesh_tables.specs.Spelling.{spell_mesh, spell_polygon, spell_polygon_on}
 use Rattle.surface_tables.specs.Spelling.{spell_surface}
+use Rattle.tshape_data.specs.Laws.{PlacesMove}
+use Rattle.tshape_data.specs.Places.{places_of}
 use Rattle.brep_file.specs.declared.uses.FileUse.{FileUse}
 use Rattle.brep_file.specs.declared.records.Record.{Record}
 use Rattle.brep_file.specs.declared.file.File.{File}
 use Rattle.brep_file.specs.PlainRecords.{record_of}
-use Rattle.brep_file.specs.Sound.{IsSound}
+use Rattle.brep_file.specs.Sound.{IsSound, sizes_of}
 use Rattle.brep_file.specs.Spelling.{section, spell_record, spell_tables, spell_use}
 use Rattle.brep_run.specs.Layout.{Line}
-use Rattle.brep_run.specs.Completion.{NumbersTell, ArePlaced, AreLocated, locations_of_number, locations_used}
-use Rattle.brep_run.proofs.ShortTokens.{each-left, each-right, each-of}
+use Rattle.brep_run.specs.Completion.{NumbersTell, ArePlaced, AreLocated, locations_in, locations_of_number, locations_used}
+use Rattle.brep_run.proofs.ShortTokens.{each-left, each-right}
 use Rattle.brep_run.proofs.LayoutLemmas.{spell_others}
 
 -- ---- one item more
@@ -49,17 +50,19 @@ met-use us i d s t u lt a b =
     (sym (ap (map (λ (v : FileUse). v.location)) (take-one us i d lt) ∙ map-append (λ (v : FileUse). v.location) (take i us) (slice_index_or us i d ∷ [])))
     (meets-more (map (λ (v : FileUse). v.location) (take i us)) ((slice_index_or us i d).location ∷ []) s t u a b)
 
-pub met-record : (f : File) (ns : List ℕ) (i : ℕ) (r : Record) (s t u : WrittenLocations) → i < length ns → record_of f (slice_index ns i) ≡ Some r →
-    Meets (flat_map (locations_of_number f) (take i ns)) s t → (us : List FileUse) → us ≡ r.uses → Meets (map (λ (v : FileUse). v.location) us) t u →
-    Meets (flat_map (locations_of_number f) (take (i + 1) ns)) s u
-met-record f ns i r s t u lt is a us same b =
-    let own : locations_of_number f (slice_index ns i) ≡ map (λ (v : FileUse). v.location) us =
-    ap (λ o. option_map_or (λ (q : Record). map (λ (v : FileUse). v.location) q.uses) o []) is ∙ ap (map (λ (v : FileUse). v.location)) (sym same) in
-    subst (λ l. Meets l s u)
+pub met-record : (f : File) (ns : List ℕ) (i : ℕ) (r : Record) (s t u v : WrittenLocations) → i < length ns → record_of f (slice_index ns i) ≡ Some r →
+    Meets (flat_map (locations_of_number f) (take i ns)) s t → Meets (places_of f.version r.head.payload) t u →
+    (us : List FileUse) → us ≡ r.uses → Meets (map (λ (v : FileUse). v.location) us) u v →
+    Meets (flat_map (locations_of_number f) (take (i + 1) ns)) s v
+met-record f ns i r s t u v lt is a b us same c =
+    let own : locations_of_number f (slice_index ns i) ≡ places_of f.version r.head.payload ++ map (λ (v : FileUse). v.location) us =
+    ap (λ o. option_map_or (locations_in f.version) o []) is ∙ ap (λ l. places_of f.version r.head.payload ++ map (λ (v : FileUse). v.location) l) (sym same) in
+    subst (λ l. Meets l s v)
     (sym (ap (flat_map (locations_of_number f)) (take-one ns i 0 lt)
     ∙ flat_map-append (locations_of_number f) (take i ns) (slice_index ns i ∷ [])
     ∙ ap (λ l. flat_map (locations_of_number f) (take i ns) ++ l) (append-nil (locations_of_number f (slice_index ns i)) ∙ own)))
-    (meets-more (flat_map (locations_of_number f) (take i ns)) (map (λ (v : FileUse). v.location) us) s t u a b)
+    (meets-more (flat_map (locations_of_number f) (take i ns)) (places_of f.version r.head.payload ++ map (λ (v : FileUse). v.location) us) s t v a
+    (meets-more (places_of f.version r.head.payload) (map (λ (v : FileUse). v.location) us) t u v b c))
 
 -- ---- the uses of a sound file's records
 module _ (f : File) (tell : NumbersTell f) where
@@ -71,6 +74,13 @@ module _ (f : File) (tell : NumbersTell f) where
       subst (λ (vs : List FileUse). (slice_index_or vs i d).location ≤ length entries) (sym same)
       (subst (λ l. (slice_index_or r.uses i d).location ≤ length l) (sym here) within)
 
+  -- and the locations of their data
+  pub data-within_section : PlacesMove → (k : ℕ) (r : Record) → IsNumberOf (length f.records) k → record_of f k ≡ Some r → (entries : List LocationEntry) → entries ≡ f.locations →
+      All (λ (n : ℕ). n ≤ length entries) (places_of f.version r.head.payload)
+  data-within_section move k r n is entries here =
+      subst (λ l. All (λ (n : ℕ). n ≤ length l) (places_of f.version r.head.payload)) (sym here)
+      (move.within (sizes_of f) f.version r.head (tell.sound.records k r n is).head)
+
   module _ (numbers places : List ℕ) (placed : ArePlaced (length f.records) numbers places) (s : WrittenLocations) (located : AreLocated f (locations_used f numbers) s) where
     pub uses-met : (i : ℕ) → i < length numbers → (r : Record) → record_of f (slice_index numbers i) ≡ Some r → (us : List FileUse) → us ≡ r.uses → All (λ (u : FileUse). HasMet s u.location) us
     uses-met i lt r is us same j d within =
@@ -79,10 +89,22 @@ module _ (f : File) (tell : NumbersTell f) where
         let u : FileUse = slice_index_or r.uses j d in
         let own : Contains (map (λ (v : FileUse). v.location) r.uses) u.location = Contains-map (λ (v : FileUse). v.location) u r.uses (Contains-get_or r.uses j d short) in
         let of : Contains (locations_of_number f k) u.location =
-        subst (λ o. Contains (option_map_or (λ (q : Record). map (λ (v : FileUse). v.location) q.uses) o []) u.location) (sym is) own in
+        subst (λ o. Contains (option_map_or (locations_in f.version) o []) u.location) (sym is)
+        (Contains-append_right (places_of f.version r.head.payload) (map (λ (v : FileUse). v.location) r.uses) u.location own) in
         subst (λ (vs : List FileUse). HasMet s (slice_index_or vs j d).location) (sym same)
         (located.met u.location (Contains-append_left (flat_map (locations_of_number f) numbers) (f.root.location ∷ []) u.location
         (Contains-flat_map (locations_of_number f) k u.location numbers (Contains-get_or numbers i 0 lt) of)))
+
+    -- and those of its data
+    pub data-met : (i : ℕ) → i < length numbers → (r : Record) → record_of f (slice_index numbers i) ≡ Some r → All (HasMet s) (places_of f.version r.head.payload)
+    data-met i lt r is =
+        let k : ℕ = slice_index numbers i in
+        let places : List ℕ = places_of f.version r.head.payload in
+        All-weaker (Contains places) (HasMet s)
+        (λ n m. located.met n (Contains-append_left (flat_map (locations_of_number f) numbers) (f.root.location ∷ []) n
+        (Contains-flat_map (locations_of_number f) k n numbers (Contains-get_or numbers i 0 lt)
+        (subst (λ o. Contains (option_map_or (locations_in f.version) o []) n) (sym is) (Contains-append_left places (map (λ (v : FileUse). v.location) r.uses) n m)))))
+        places (All-contains_itself places)
 
 -- ---- how many entries the section that is written has
 pub few-written : (s : WrittenLocations) → IsNumbering s → (datums further : ℕ) → datums ≡ length (datums_of s.section.now) → further ≡ length (further_of s) → datums + further ≤ 8589934591
@@ -206,7 +228,7 @@ locations-can (Product factors ∷ entries) short =
 
 -- the tokens of a sound file's tables
 pub short-tables : (f : File) → IsSound f → AreShort (spell_tables f)
-short-tables f sound = each-left (λ (t : List ℕ). length t ≤ 128) (spell_tables f) (section (codes "TShapes") spell_record f.records ++ spell_use f.root) sound.tokens
+short-tables f sound = each-left (λ (t : List ℕ). length t ≤ 128) (spell_tables f) (section (codes "TShapes") (spell_record f.version) f.records ++ spell_use f.root) sound.tokens
 
 pub short-others : (f : File) → IsSound f → AreShort (spell_others f)
 short-others f sound = each-right (λ (t : List ℕ). length t ≤ 128) (section (codes "Locations") spell_location f.locations) (spell_others f) (short-tables f sound)

@@ -1,6 +1,6 @@
 -- The compound that is made as the root: its text, and that it can be written.
-use Rattle.std.proofs.Common.{◌≡◌, ◌<◌, ◌≤◌, ◌-◌, refl, sym, ◌∙◌, ap, subst, arith, inl, inr}
-use Rattle.std.specs.Prelude.{ℕ, ◌^◌, if◌then◌else◌, None, List, [], ◌∷◌, ◌++◌, length, Contains, codes}
+use Rattle.std.proofs.Common.{◌≡◌, ◌-◌, refl, sym, ◌∙◌, ap, subst, arith, inl, inr}
+use Rattle.std.specs.Prelude.{if◌then◌else◌, None, [], ◌∷◌, ◌++◌, length, Contains, codes}
 use Rattle.std.specs.Option.{option_map_or}
 use Rattle.std.specs.Fmt.{digits}
 use Rattle.std.proofs.lemmas.Option.{slice_get_past}
@@ -10,18 +10,18 @@ use Rattle.location_table.specs.Words.{datums_of}
 use Rattle.written_locations.specs.Further.{further_words}
 use Rattle.written_locations.proofs.Meeting.{datums-few}
 use Rattle.written_locations.proofs.Sections.{length-written}
-use Rattle.expansion_laws.specs.Trees.{Tree, Use, uses, tree_of, origin}
+use Rattle.expansion_laws.specs.Trees.{Tree, uses, tree_of, origin}
 use Rattle.expansion_laws.specs.Equality.{tree_eq}
 use Rattle.expansion_laws.proofs.Members.{Contains-none, Contains-cases}
 use Rattle.brep_file.specs.declared.file.File.{File}
-use Rattle.brep_file.specs.declared.head.Head.{Head}
+use Rattle.tshape_data.specs.declared.head.Head.{Head}
 use Rattle.brep_file.specs.declared.records.Record.{Record}
 use Rattle.brep_file.specs.PlainRecords.{record_of, tree_of_record}
 use Rattle.brep_file.specs.Sound.{IsSound}
 use Rattle.brep_run.specs.Dress.{head_for, made_head, rebuilt}
 use Rattle.brep_run.specs.Copies.{CanBeWritten}
 use Rattle.brep_run.specs.Layout.{shape_lines}
-use Rattle.brep_run.specs.WrittenFile.{words_of_data, words_under, locations_under, written_file}
+use Rattle.brep_run.specs.WrittenFile.{words_of_data, words_under, location_under, locations_under, written_file, written_head}
 use Rattle.brep_run.specs.Remaining.{made_root}
 
 no_record : (f : File) → record_of f 0 ≡ None
@@ -41,7 +41,7 @@ made_shapes f =
     let head = made_head_is f in
     (λ i. lines_text (shape_lines (record f {
       locations = locations_under f made_root;
-      records = record { head = head i; uses = [] } ∷ [];
+      records = record { head = written_head f (location_under f made_root) (head i); uses = [] } ∷ [];
       root = record { turn = Forward; number = 1; location = 0 };
     })))
     ∙ made_lines (record f { locations = locations_under f made_root })
@@ -51,7 +51,7 @@ made-only x m = elim (Contains-cases (tree_of 0 []) x [] m) [ inl e ↦ sym e | 
 
 -- it has no further words
 pub made-words : (f : File) → further_words (words_under f made_root) ≡ []
-made-words f = ap (λ (h : Head). further_words (((words_of_data h.payload ++ []) ++ []) ++ [] ∷ [])) (made_head_is f)
+made-words f = ap (λ (h : Head). further_words (((words_of_data f h ++ []) ++ []) ++ [] ∷ [])) (made_head_is f)
 
 pub made-writable : (f : File) → IsSound f → CanBeWritten f made_root
 made-writable f sound = record {

@@ -1,13 +1,13 @@
 -- Numbers of records in place of their trees.
 use Rattle.std.proofs.Common.{◌≡◌, ◌≢◌, ◌<◌, ◌-◌, refl, sym, ◌∙◌, ap, subst, arith}
-use Rattle.std.specs.Prelude.{ℕ, Bool, true, false, ◌==◌, Some, List, [], ◌∷◌, ◌++◌, map, length, slice_get, slice_index}
+use Rattle.std.specs.Prelude.{ℕ, Bool, true, false, if◌then◌else◌, ◌==◌, Some, List, [], ◌∷◌, ◌++◌, map, length, slice_get, slice_index}
 use Rattle.std.proofs.lemmas.List.{length-map}
 use Rattle.std.proofs.lemmas.Option.{slice_get-map}
 use Rattle.std.proofs.lemmas.Simd.{map-map}
 use Rattle.std.proofs.lemmas.List.{map-append}
 use Rattle.std.proofs.lemmas.Bool.{eqb-true, eqb-false}
-use Rattle.std.specs.Option.{option_map}
-use Rattle.expansion_laws.specs.Trees.{uses, uses_of}
+use Rattle.std.specs.Option.{option_map, option_map_or}
+use Rattle.expansion_laws.specs.Trees.{Tree, uses, uses_of}
 use Rattle.expansion_laws.specs.Equality.{tree_eq}
 use Rattle.expansion_laws.specs.Expansion.{IsNumberOf, expanded, trees_of_file}
 use Rattle.expansion_laws.specs.Written.{completed, completed_uses, number_in}
@@ -15,6 +15,7 @@ use Rattle.brep_file.specs.declared.uses.FileUse.{FileUse}
 use Rattle.brep_file.specs.declared.records.Record.{Record}
 use Rattle.brep_file.specs.declared.file.File.{File}
 use Rattle.brep_file.specs.PlainRecords.{record_of, plain_use, plain_records, tree_of_record}
+use Rattle.brep_run.specs.Dress.{head_for, rebuilt, made_head}
 use Rattle.brep_run.specs.Completion.{NumbersTell, ArePlaced, Completes, CompletesUses, use_of_tree, new_number}
 use Rattle.brep_run.proofs.CompletedTrees.{completed-done, completed-new, completed_uses-push, any_at, any_none, number_at, number_none}
 
@@ -44,6 +45,14 @@ uses_of_tree f tell k r n is =
     ap (slice_get (plain_records f)) long ∙ slice_get-map plain f.records (length f.records - k) ∙ ap (option_map plain) is in
     tell.trees.same_uses k (map (plain_use f.locations) r.uses) (plain_number f k n) at
     ∙ map-map (expanded 1 (trees_of_file (plain_records f))) (plain_use f.locations) r.uses
+
+-- the tree of a record has the record's own head
+pub head_is : (f : File) → NumbersTell f → (k : ℕ) (r : Record) → IsNumberOf (length f.records) k → record_of f k ≡ Some r → head_for f (tree_of_record f k) ≡ r.head
+head_is f tell k r n is =
+    let x : Tree = tree_of_record f k in
+    ap (λ j. option_map_or (λ s. if tree_eq x (tree_of_record f j) then s.head else rebuilt s.head) (record_of f j) made_head) (tell.trees.origins k (plain_number f k n))
+    ∙ ap (λ b. option_map_or (λ s. if b then s.head else rebuilt s.head) (record_of f k) made_head) (same_tree f tell k)
+    ∙ ap (λ o. option_map_or (λ s. s.head) o made_head) is
 
 -- ---- placed numbers
 module _ (f : File) (tell : NumbersTell f) (numbers places : List ℕ) (placed : ArePlaced (length f.records) numbers places) where

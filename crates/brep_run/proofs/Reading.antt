@@ -1,12 +1,21 @@
 -- What was read first is still held, and nothing was written since.
-use Rattle.std.proofs.Common.{◌≡◌, ℕ, inl, inr, List, Some, take, true, false, IsTrue, sym, ap, subst, ◌∙◌}
+use Rattle.std.proofs.Common.{◌≡◌, ℕ, inl, inr, List, Some, true, IsTrue, sym, ap, subst, ◌∙◌}
 use Rattle.brep_desk.specs.Shown.{Shown, Tells, ChangesOnly}
 use Rattle.brep_desk.specs.Whole.{NothingWritten, NoMoreOpen}
 use Rattle.brep_run.specs.declared.outcome.Outcome.{Outcome}
 use Rattle.brep_run.specs.declared.outcome.Outcome.TheVariants.{Done, Usage, NotBuilt, Script, Limit, ReadDesk, WriteDesk, NoMemory}
-use Rattle.brep_run.specs.Outcomes.{OnDone, IfWriteDesk}
-use Rattle.brep_run.specs.Copy.{OutWritten}
-use Rattle.brep_run.specs.Rewrite.{AreDue, BothWritten, IsRewritten, IsOneStopped, IsRewriteStopped}
+use Rattle.brep_run.specs.declared.outcome.Outcome.TheVariants as outcomes
+use Rattle.expansion_laws.specs.Trees.{Use}
+use Rattle.brep_file.specs.declared.file.File.{File}
+use Rattle.brep_run.specs.declared.outcome.LimitKind.{LimitKind}
+use Rattle.brep_run.specs.declared.outcome.LimitKind.TheVariants.{FileBytes, ScriptBytes, ScriptLines}
+use Rattle.brep_run.specs.Outcomes.{OnDone, OnNotBuilt, IfLimit, IfScript, IfWriteDesk}
+use Rattle.brep_run.specs.Copy.{IsDue, OutWritten}
+use Rattle.brep_file.specs.PlainRecords.{expansion_of}
+use Rattle.brep_run.specs.WrittenFile.{text_of}
+use Rattle.brep_run.specs.Inputs.{IsLinesStop, IsScriptLimit, IsScriptStop}
+use Rattle.brep_run.specs.Rewrite.{AreDue, AreTextsOf, BothWritten, HoldsFile, HoldsScript, IsRefusedLine, IsRewriteLimit, IsRewriteUnbuilt, IsRewritten, IsOneStopped, IsRewriteStopped, given_for}
+use Rattle.brep_run.specs.Script.{removals}
 use Rattle.brep_run.proofs.Stopping.{prefix_after}
 
 pub held-before : (t : Tells) (old new : Shown) (name bytes : List ℕ) → NothingWritten t old new → new.held name ≡ Some bytes → old.held name ≡ Some bytes
@@ -53,6 +62,7 @@ module _ (t : Tells) (a b new : Shown) (quiet : NothingWritten t a b) (closed : 
   done-after Done h = both-after h
   done-after Usage h = tt
   done-after NotBuilt h = tt
+  done-after (outcomes.File fault) h = tt
   done-after (Script fault) h = tt
   done-after (Limit which count) h = tt
   done-after (ReadDesk before after) h = tt
@@ -64,8 +74,83 @@ module _ (t : Tells) (a b new : Shown) (quiet : NothingWritten t a b) (closed : 
   stopped-after Done h = tt
   stopped-after Usage h = tt
   stopped-after NotBuilt h = tt
+  stopped-after (outcomes.File fault) h = tt
   stopped-after (Script fault) h = tt
   stopped-after (Limit which count) h = tt
   stopped-after (ReadDesk before after) h = tt
   stopped-after (WriteDesk before after file taken) h = one-after file taken h
   stopped-after NoMemory h = tt
+
+-- a file that was read, and what the script says that is read after it
+module _ (t : Tells) (a b : Shown) (quiet : NothingWritten t a b) (source script : List ℕ) (f : File) (file : IsTrue t.held → HoldsFile a source f) where
+  limit-before : (which : LimitKind) (count : ℕ) → IsScriptLimit t b script which count → IsRewriteLimit t a source script which count
+  limit-before FileBytes count h = absurd h
+  limit-before ScriptBytes count h = (h.0, (λ told. (let long = h.1 told in (long.0, held-before t a b script long.0 quiet long.1, long.2))), (λ told. (f, file told)))
+  limit-before ScriptLines count h = (
+    h.0,
+    λ told. (let more = h.1 told in
+        (f, file told, record { lines = more.lines; held = held-before t a b script more.lines quiet more.held; few_bytes = more.few_bytes; more = more.more })),
+  )
+
+  pub limited-before : (entry exit : ℕ) (o : Outcome) → IsScriptStop t b script entry exit o → IfLimit o (λ which count. IsRewriteLimit t a source script which count)
+  limited-before entry exit Done h = tt
+  limited-before entry exit Usage h = tt
+  limited-before entry exit NotBuilt h = tt
+  limited-before entry exit (outcomes.File fault) h = tt
+  limited-before entry exit (Script fault) h = tt
+  limited-before entry exit (Limit which count) h = limit-before which count h
+  limited-before entry exit (ReadDesk before after) h = tt
+  limited-before entry exit (WriteDesk before after file taken) h = tt
+  limited-before entry exit NoMemory h = tt
+
+  module _ (lines : List ℕ) (held : IsTrue t.held → HoldsScript b script lines) where
+    script-before : IsTrue t.held → HoldsScript a script lines
+    script-before told = (let is = held told in record { held = held-before t a b script lines quiet is.held; few_bytes = is.few_bytes; few_lines = is.few_lines })
+
+    pub due-before : (numbers : List ℕ) (root : Use) (text told : List ℕ) → given_for f lines ≡ removals numbers → AreTextsOf f numbers root text told → AreDue t a source script text told
+    due-before numbers root text told given texts = λ is. (f, numbers, root, record { file = file is; lines = lines; held = script-before is; given = given }, texts)
+
+    -- the same of the slices that the calls were given
+    pub due-made : (slice numbers picked text made told : List ℕ) (root : Use) → slice ≡ lines → picked ≡ numbers → text ≡ made → given_for f slice ≡ removals numbers →
+        AreTextsOf f picked root made told → AreDue t a source script text told
+    due-made slice numbers picked text made told root same_lines same_numbers same_text given texts =
+        due-before numbers root text told (subst (λ ls. given_for f ls ≡ removals numbers) same_lines given)
+        (subst (λ x. AreTextsOf f numbers root x told) (sym same_text) (subst (λ ns. AreTextsOf f ns root made told) same_numbers texts))
+
+    pub unbuilt-before : (o : Outcome) → IsLinesStop f lines o → OnNotBuilt o (IsRewriteUnbuilt t a source script)
+    unbuilt-before Done h = tt
+    unbuilt-before Usage h = tt
+    unbuilt-before NotBuilt h = λ told. (f, lines, file told, script-before told, h)
+    unbuilt-before (outcomes.File fault) h = tt
+    unbuilt-before (Script fault) h = tt
+    unbuilt-before (Limit which count) h = tt
+    unbuilt-before (ReadDesk before after) h = tt
+    unbuilt-before (WriteDesk before after file taken) h = tt
+    unbuilt-before NoMemory h = tt
+
+    pub refused-before : (o : Outcome) → IsLinesStop f lines o → IfScript o (λ fault. IsRefusedLine t a source script fault)
+    refused-before Done h = tt
+    refused-before Usage h = tt
+    refused-before NotBuilt h = tt
+    refused-before (outcomes.File fault) h = tt
+    refused-before (Script fault) h = λ told. (f, lines, file told, script-before told, h)
+    refused-before (Limit which count) h = tt
+    refused-before (ReadDesk before after) h = tt
+    refused-before (WriteDesk before after file taken) h = tt
+    refused-before NoMemory h = tt
+
+-- a file that was read, and the text of its copy
+pub due-copy : (t : Tells) (old : Shown) (source text : List ℕ) (f : File) → (IsTrue t.held → HoldsFile old source f) → text ≡ text_of f (expansion_of f) → IsDue t old source text
+due-copy t old source text f file written = λ told. (let is = file told in (is.bytes, f, is.holds, record { reads = is.reads; written = written }))
+
+module _ (t : Tells) (a b d : Shown) (quiet : NothingWritten t a b) (closed : IsTrue t.opened → NoMoreOpen a b) (source name text : List ℕ) (due : IsDue t a source text) where
+  pub copied-after : (o : Outcome) → OnDone o (OutWritten t b d name text) → OnDone o ((text : List ℕ) × IsDue t a source text × OutWritten t a d name text)
+  copied-after Done h = (text, due, out-after t a b d quiet closed name text h)
+  copied-after Usage h = tt
+  copied-after NotBuilt h = tt
+  copied-after (outcomes.File fault) h = tt
+  copied-after (Script fault) h = tt
+  copied-after (Limit which count) h = tt
+  copied-after (ReadDesk before after) h = tt
+  copied-after (WriteDesk before after file taken) h = tt
+  copied-after NoMemory h = tt

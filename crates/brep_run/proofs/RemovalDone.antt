@@ -1,42 +1,40 @@
 -- What is written after a removal is what is due.
-use Rattle.std.proofs.Common.{◌≡◌, ◌≢◌, ◌<◌, ◌≤◌, ◌+◌, ◌-◌, refl, sym, ◌∙◌, ap, subst, arith, inl, inr}
-use Rattle.std.specs.Prelude.{ℕ, zero, suc, Bool, true, false, not, ◌==◌, ◌&&◌, Some, List, [], ◌∷◌, map, reverse, length, slice_get, slice_index, unwrap_or, Contains}
+use Rattle.std.proofs.Common.{◌≡◌, ◌-◌, refl, sym, ◌∙◌, ap, subst, arith}
+use Rattle.std.specs.Prelude.{ℕ, Bool, true, false, not, ◌&&◌, List, [], ◌∷◌, map, reverse, length, slice_get, slice_index, unwrap_or, Contains}
 use Rattle.std.proofs.lemmas.List.Elements.{All-contains}
 use Rattle.std.proofs.lemmas.Option.{slice_get_within, unwrap_or-slice_get}
-use Rattle.expansion_laws.specs.Trees.{Tree, Use, a_single, origin, tree_of}
+use Rattle.expansion_laws.specs.Trees.{Tree, Use, origin}
 use Rattle.expansion_laws.specs.Contexts.{at_root}
-use Rattle.expansion_laws.specs.Expansion.{NumberedUse, IsNumberOf, expansion, tree_of_number}
+use Rattle.expansion_laws.specs.Expansion.{IsNumberOf, expansion, tree_of_number}
 use Rattle.expansion_laws.specs.Rewriting.{StepsTo}
 use Rattle.expansion_laws.specs.RewritingLaws.{IsDetermined}
-use Rattle.expansion_laws.specs.Steps.{root_of, kind}
+use Rattle.expansion_laws.specs.Steps.{root_of}
 use Rattle.expansion_laws.specs.Visits.{IsImage}
 use Rattle.expansion_laws.specs.Walk.{RecordsAreTrees}
 use Rattle.expansion_laws.specs.Written.{flat, IsWritten}
-use Rattle.expansion_laws.proofs.Members.{by_test, Contains-here, Contains-there, Contains-none, place_of}
+use Rattle.expansion_laws.proofs.Members.{Contains-here, Contains-there, Contains-none, place_of}
 use Rattle.step_history.specs.History.{IsTold, OccursIn, modified, step_history}
-use Rattle.brep_file.specs.declared.uses.FileUse.{FileUse}
 use Rattle.brep_file.specs.declared.records.Record.{Record}
 use Rattle.brep_file.specs.declared.file.File.{File}
-use Rattle.brep_file.specs.PlainRecords.{record_of, plain_use, plain_records, tree_of_record, expansion_of, plain_root}
+use Rattle.brep_file.specs.PlainRecords.{plain_use, plain_records, tree_of_record, expansion_of, plain_root}
 use Rattle.brep_file.specs.Sound.{IsUse, IsSound}
 use Rattle.brep_run.specs.Dress.{head_of}
 use Rattle.brep_run.specs.Completion.{NumbersTell, ArePlaced, Completes}
 use Rattle.brep_run.specs.Copies.{CanBeWritten}
 use Rattle.brep_run.specs.WrittenFile.{text_of}
-use Rattle.brep_run.specs.Removal.{removal_step, tree_written, IsRootAfter, history_after, no_history, ArePairsOf, AreNumbersOf, RemovalDone, Ascends, origins_written}
-use Rattle.brep_run.specs.Remaining.{is_among, is_told, has_place, is_gone, is_modified, passing, pair_of, kept_records, tree_after, made_root, RootStays, RootGoes}
+use Rattle.brep_run.specs.Removal.{removal_step, tree_written, IsRootAfter, history_after, ArePairsOf, AreNumbersOf, RemovalDone, Ascends, origins_written}
+use Rattle.brep_run.specs.Remaining.{is_among, is_told, has_place, is_gone, is_modified, passing, kept_records, tree_after, made_root, RootStays, RootGoes}
 use Rattle.brep_file.specs.Marks.{kept_uses}
 use Rattle.brep_run.proofs.CopyLemmas.{stands-below}
 use Rattle.brep_run.proofs.KeptLists.{filter-all, map-same}
 use Rattle.brep_run.proofs.MadeRoot.{made-only, made-writable}
 use Rattle.brep_run.proofs.Numbering.{plain_number}
 use Rattle.brep_run.proofs.Passing.{Passes, passing-member, passing-has, passing-ascends, first-of_pairs}
-use Rattle.brep_run.proofs.RemovalTrees.{use_after}
-use Rattle.brep_run.proofs.RemovalFile.{root-after, tree-after, text-same, writable-over, after-tells}
-use Rattle.brep_run.proofs.RemovalHistory.{Orders, true-false, told-is, is-told, and-parts, and-both, kind-is, none-replaced, step-generates_none, step-removes, step-modifies}
+use Rattle.brep_run.proofs.RemovalFile.{root-after, text-same, writable-over, after-tells}
+use Rattle.brep_run.proofs.RemovalHistory.{Orders, true-false, told-is, is-told, and-parts, and-both, kind-is, none-replaced, step-removes, step-modifies}
 use Rattle.brep_run.proofs.RemovalRewriting.{AreRemoved, result_of, result-gone, result-stays, rewrites-are}
 use Rattle.brep_run.proofs.RemovalStanding.{stands-placed, placed-stands}
-use Rattle.brep_run.proofs.RemovalVisits.{Imaged, image-is, no-image}
+use Rattle.brep_run.proofs.RemovalVisits.{image-is, no-image}
 
 -- the laws that are taken from below
 pub record Laws : Type 1 where

@@ -1,6 +1,6 @@
 -- The file that remains after a removal: it is sound, and it is written as its root over the first file.
-use Rattle.std.proofs.Common.{◌≡◌, ◌<◌, ◌≤◌, ◌+◌, ◌-◌, refl, sym, ◌∙◌, ap, subst, arith, inl, inr}
-use Rattle.std.specs.Prelude.{ℕ, zero, suc, max, ◌^◌, Bool, true, false, not, ◌&&◌, if◌then◌else◌, Option, Some, List, [], ◌∷◌, ◌++◌, All, map, filter, length, codes, Contains, slice_get}
+use Rattle.std.proofs.Common.{◌≡◌, ◌⊎◌, ◌<◌, ◌≤◌, ◌+◌, ◌-◌, refl, sym, ◌∙◌, ap, subst, arith, inl, inr}
+use Rattle.std.specs.Prelude.{ℕ, zero, suc, ◌^◌, Bool, not, ◌&&◌, Option, Some, List, [], ◌∷◌, ◌++◌, map, filter, length, codes, Contains, slice_get}
 use Rattle.std.specs.List.{flat_map}
 use Rattle.std.specs.Option.{option_map, option_map_or}
 use Rattle.std.proofs.lemmas.List.{length-map}
@@ -9,38 +9,40 @@ use Rattle.std.proofs.lemmas.Option.{same_Some, slice_get-map, slice_get_within}
 use Rattle.orientation.specs.declared.kind.Kind.{Kind}
 use Rattle.orientation.specs.Kinds.{IsBelow}
 use Rattle.location_words.specs.declared.pair.Pair.{Pair}
-use Rattle.location_table.specs.Words.{datums_of}
+use Rattle.location_table.specs.Words.{datums_of, word_of_place}
 use Rattle.location_table.specs.Written.{IsWordOver, written_section}
 use Rattle.written_locations.specs.Further.{further_words, number_of_word}
-use Rattle.expansion_laws.specs.Trees.{Tree, Use, uses, uses_of, origin, tree_of}
-use Rattle.expansion_laws.specs.Equality.{tree_eq}
+use Rattle.expansion_laws.specs.Trees.{Tree, Use, uses, uses_of, origin}
 use Rattle.expansion_laws.specs.Measures.{depth, uses_depth, subtrees}
 use Rattle.expansion_laws.specs.Expansion.{NumberedUse, IsNumberOf, expansion, tree_of_number}
 use Rattle.expansion_laws.specs.Walk.{RecordsAreTrees}
 use Rattle.expansion_laws.specs.Written.{flat, IsWritten}
 use Rattle.expansion_laws.proofs.Members.{by_test, Contains-here, Contains-there, at_place}
 use Rattle.expansion_laws.proofs.Subtrees.{subtrees-itself, subtrees-use, subtrees-onward}
+use Rattle.tshape_data.specs.Places.{moved_head, places_of}
+use Rattle.tshape_data.specs.Sound.{IsSoundHead}
+use Rattle.tshape_data.specs.Spelling.{spell_payload}
+use Rattle.tshape_data.specs.declared.head.Head.{Head}
 use Rattle.brep_file.specs.declared.uses.FileUse.{FileUse}
-use Rattle.brep_file.specs.declared.head.Head.{Head}
 use Rattle.brep_file.specs.declared.records.Record.{Record}
 use Rattle.brep_file.specs.declared.file.File.{File}
 use Rattle.brep_file.specs.PlainRecords.{record_of, plain_use, plain_records, tree_of_record, expansion_of}
-use Rattle.brep_file.specs.Sound.{AreSoundTables, IsShaped, IsUse, IsRecord, IsSound}
-use Rattle.brep_file.specs.Spelling.{section, spell_file, spell_payload, spell_record, spell_tables, spell_use}
-use Rattle.brep_run.specs.Dress.{head_for, head_of, made_head, rebuilt}
+use Rattle.brep_file.specs.Sound.{AreSoundTables, IsUse, IsRecord, IsSound, sizes_of}
+use Rattle.brep_file.specs.Spelling.{section, spell_file, spell_record, spell_tables, spell_use}
+use Rattle.brep_run.specs.Dress.{head_for, head_of, made_head}
 use Rattle.brep_run.specs.Completion.{NumbersTell, use_of_tree}
 use Rattle.brep_run.specs.Copies.{CanBeWritten}
 use Rattle.brep_run.specs.Layout.{layout}
-use Rattle.brep_run.specs.WrittenFile.{words_of_data, words_of_tree, words_under, locations_under, location_under, written_use, written_record, text_of}
+use Rattle.brep_run.specs.WrittenFile.{words_of_tree, words_under, locations_under, location_under, written_use, written_record, text_of}
 use Rattle.brep_run.specs.Remaining.{kept_records, tree_after, record_after, IsFileAfter, is_told, is_gone, is_modified, has_place, passing}
 use Rattle.brep_file.specs.Marks.{kept_uses, mark_of}
-use Rattle.brep_run.proofs.CopyLemmas.{record-at, kind-for, file-sound, stands-below}
+use Rattle.brep_run.proofs.CopyLemmas.{record-at, kind-for, stands-below}
 use Rattle.brep_run.proofs.KeptLists.{by_places, filter-yes, filter-no, map-same}
 use Rattle.brep_run.proofs.Passing.{passing-same}
-use Rattle.brep_run.proofs.WrittenSound.{perhaps, shaped-perhaps}
+use Rattle.brep_run.proofs.WrittenSound.{head-sound}
 use Rattle.brep_run.proofs.ShortTokens.{Short, AreShort, each-left, file-short, payload-for}
-use Rattle.brep_run.proofs.WrittenTexts.{head_is}
-use Rattle.brep_run.proofs.RemovalTrees.{use_after, count-kept, origin-after, after-is, before-is, names-above}
+use Rattle.brep_run.proofs.Numbering.{head_is}
+use Rattle.brep_run.proofs.RemovalTrees.{use_after, origin-after, after-is, before-is, names-above}
 
 flat_map-same : {X Y : Type 0} (a b : X → List Y) (xs : List X) → ((x : X) → Contains xs x → a x ≡ b x) → flat_map a xs ≡ flat_map b xs
 flat_map-same a b [] h = refl
@@ -73,14 +75,6 @@ module _ (f : File) (removed : ℕ → Bool) (tell : NumbersTell f) (walk : Reco
 
   pub kind-after : (k : ℕ) (r : Record) → IsNumberOf (length f.records) k → record_of f k ≡ Some r → (head_for f (tree_after f removed k)).kind ≡ r.head.kind
   kind-after k r n e = kind-for f (tree_after f removed k) r (ap (record_of f) (origin-after f removed tell walk k n) ∙ e)
-
-  shaped-after : (k : ℕ) (r : Record) → IsNumberOf (length f.records) k → record_of f k ≡ Some r → IsShaped r.head.kind r.head.payload →
-      IsShaped (head_for f (tree_after f removed k)).kind (head_for f (tree_after f removed k)).payload
-  shaped-after k r n e s =
-      let same : Bool = tree_eq (tree_after f removed k) (tree_of_record f (origin (tree_after f removed k))) in
-      let is : head_for f (tree_after f removed k) ≡ perhaps same r.head =
-      ap (λ (o : Option Record). option_map_or (λ (q : Record). if same then q.head else rebuilt q.head) o made_head) (ap (record_of f) (origin-after f removed tell walk k n) ∙ e) in
-      subst (λ h. IsShaped h.kind h.payload) (sym is) (shaped-perhaps same r.head s)
 
   abbrev uses_in_file : Record → List NumberedUse
   uses_in_file r = map (plain_use f.locations) r.uses
@@ -153,7 +147,7 @@ module _ (f : File) (removed : ℕ → Bool) (tell : NumbersTell f) (walk : Reco
 
     record-sound : (k : ℕ) (r : Record) → IsNumberOf (length f.records) k → record_of f k ≡ Some r → IsRecord f k r → IsRecord g k (record_after f removed k r)
     record-sound k r n e is = record {
-      shaped = shaped-after k r n e is.shaped;
+      head = subst (λ (h : File). IsSoundHead (sizes_of h) h.version (head_for f (tree_after f removed k))) (sym after.others) (head-sound f tell.sound (tree_after f removed k));
       uses = All-weaker (IsUse f k r.head.kind) (IsUse g k (head_for f (tree_after f removed k)).kind) (λ u o. use-sound k r u n e o) (kept_uses removed r.uses)
           (All-filter (λ u. not (removed u.number)) (IsUse f k r.head.kind) r.uses is.uses);
     }
@@ -184,15 +178,16 @@ module _ (f : File) (removed : ℕ → Bool) (tell : NumbersTell f) (walk : Reco
 
     tokens-after : AreShort (spell_file g)
     tokens-after =
-        file-short g (subst AreShort (sym (ap spell_tables after.others)) (each-left Short (spell_tables f) (section (codes "TShapes") spell_record f.records ++ spell_use f.root) tell.sound.tokens))
+        file-short g (subst AreShort (sym (ap spell_tables after.others)) (each-left Short (spell_tables f) (section (codes "TShapes") (spell_record f.version) f.records ++ spell_use f.root) tell.sound.tokens))
         (subst (λ l. length l < 10 ^ 18) (sym locations-same) tell.sound.tables.countable) few-after
         (λ k q n o. (record-at_place k q n o).1)
-        (λ k q n o. (let at = record-at_place k q n o in subst (λ (r : Record). AreShort (spell_payload r.head.payload)) at.2 (payload-for f tell.sound (tree_after f removed k))))
+        (λ k q n o. (let at = record-at_place k q n o in subst (λ (r : Record). AreShort (spell_payload g.version r.head.payload)) at.2
+        (subst (λ v. AreShort (spell_payload v (head_for f (tree_after f removed k)).payload)) (sym version-same) (payload-for f tell.sound (tree_after f removed k)))))
         root-in location-in
 
     pub after-sound : IsSound g
     after-sound = record {
-      version = version-same ∙ tell.sound.version;
+      version = subst (λ v. (v ≡ 1) ⊎ (v ≡ 2)) (sym version-same) tell.sound.version;
       tokens = tokens-after;
       tables = tables-after;
       countable = few-after;
@@ -247,7 +242,8 @@ module _ (f : File) (removed : ℕ → Bool) (tell : NumbersTell f) (walk : Reco
         words-same : words_under g (expansion_of g) ≡ words_under f (expansion_of g)
         words-same = ap (λ l. l ++ (expansion_of g).word ∷ [])
             (flat_map-same (words_of_tree g) (words_of_tree f) (flat (expansion_of g).tree) (λ x m.
-            ap (λ (h : Head). words_of_data h.payload ++ map (λ (u : Use). u.word) (uses x)) (head-same x (written.lists.stand x m))))
+            let places = locations-same in let version = version-same in let same = head-same x (written.lists.stand x m) in
+            λ i. map (word_of_place (places i)) (places_of (version i) (same i).payload) ++ map (λ (u : Use). u.word) (uses x)))
 
         -- so it is written alike
         pub text-same : text_of g (expansion_of g) ≡ text_of f (expansion_of g)
@@ -256,7 +252,8 @@ module _ (f : File) (removed : ℕ → Bool) (tell : NumbersTell f) (walk : Reco
             let here : List Pair → ℕ = location_under g (expansion_of g) in
             let heads : map (written_record g here trees) trees ≡ map (written_record f here trees) trees =
             map-same (written_record g here trees) (written_record f here trees) trees (λ x m.
-            let same = head-same x (written.lists.stand x m) in λ i. record { head = same i; uses = map (written_use here trees) (uses x) }) in
+            let places = locations-same in let same = head-same x (written.lists.stand x m) in
+            λ i. record { head = moved_head (λ n. here (word_of_place (places i) n)) (same i); uses = map (written_use here trees) (uses x) }) in
             let others = after.others in
             let words = words-same in
             let datums = ap datums_of locations-same in

@@ -1,13 +1,13 @@
 -- The history of a removal in numbers, where the root isn't removed.
-use Rattle.std.proofs.Common.{◌≡◌, ◌≢◌, ◌<◌, ◌≤◌, ◌+◌, ◌-◌, refl, sym, ◌∙◌, ap, subst, arith, inl, inr}
-use Rattle.std.specs.Prelude.{ℕ, zero, suc, Bool, true, false, not, ◌&&◌, ◌⊎◌, Option, Some, List, [], ◌∷◌, map, length, Contains}
+use Rattle.std.proofs.Common.{◌≡◌, ◌≢◌, refl, sym, ◌∙◌, ap, subst, arith, inl, inr}
+use Rattle.std.specs.Prelude.{ℕ, suc, Bool, true, false, not, ◌&&◌, List, [], map, length, Contains}
 use Rattle.orientation.specs.declared.kind.Kind.{Kind}
 use Rattle.orientation.specs.declared.kind.Kind.TheVariants.{Ve, Ed, Wi, Fa, Sh, So, CS, Co}
 use Rattle.expansion_laws.specs.Trees.{Tree, Use, origin}
 use Rattle.expansion_laws.specs.Equality.{tree_eq}
 use Rattle.expansion_laws.specs.Expansion.{IsNumberOf}
 use Rattle.expansion_laws.specs.Measures.{subtrees}
-use Rattle.expansion_laws.specs.Requests.{Act, remove, replace}
+use Rattle.expansion_laws.specs.Requests.{remove, replace}
 use Rattle.expansion_laws.specs.RewritingLaws.{IsDetermined}
 use Rattle.expansion_laws.specs.Steps.{kind}
 use Rattle.expansion_laws.specs.Visits.{IsImage, IsReplaced}
@@ -15,7 +15,6 @@ use Rattle.expansion_laws.specs.Walk.{RecordsAreTrees}
 use Rattle.expansion_laws.specs.Written.{flat, IsWritten}
 use Rattle.expansion_laws.proofs.Members.{by_test, Contains-map, Contains-map_cases}
 use Rattle.step_history.specs.History.{History, IsTold, OccursIn, modified, step_history}
-use Rattle.brep_file.specs.declared.uses.FileUse.{FileUse}
 use Rattle.brep_file.specs.declared.file.File.{File}
 use Rattle.brep_file.specs.PlainRecords.{tree_of_record, expansion_of}
 use Rattle.brep_run.specs.Dress.{head_of}

@@ -1,17 +1,14 @@
 -- Going through the records in file order.
-use Rattle.std.proofs.Common.{◌≡◌, ◌≢◌, ◌<◌, ◌≤◌, ◌+◌, ◌-◌, refl, sym, ◌∙◌, ap, subst, arith, get_or, get_or-set_same, get_or-set_other, set}
-use Rattle.std.specs.Prelude.{ℕ, Bool, true, not, false, ◌||◌, if◌then◌else◌, nat_eq, Option, Some, List, length, slice_get, Contains}
+use Rattle.std.proofs.Common.{◌≡◌, ◌≢◌, ◌<◌, ◌≤◌, ◌+◌, ◌-◌, refl, sym, ◌∙◌, ap, arith, get_or, get_or-set_same, get_or-set_other, set}
+use Rattle.std.specs.Prelude.{ℕ, Bool, true, not, false, ◌||◌, if◌then◌else◌, nat_eq, Option, Some, List, length, slice_get}
 use Rattle.std.specs.Option.{option_map_or}
 use Rattle.std.proofs.lemmas.List.{length-set}
 use Rattle.std.proofs.lemmas.Bool.{eqb-true, eqb-false}
 use Rattle.std.proofs.lemmas.Option.{same_Some, slice_get-get_or}
 use Rattle.expansion_laws.specs.Equality.{tree_eq}
 use Rattle.expansion_laws.specs.Expansion.{IsNumberOf}
-use Rattle.expansion_laws.specs.Trees.{origin}
 use Rattle.expansion_laws.specs.Walk.{RecordsAreTrees}
 use Rattle.expansion_laws.proofs.Members.{by_test}
-use Rattle.brep_file.specs.declared.uses.FileUse.{FileUse}
-use Rattle.brep_file.specs.declared.head.Head.{Head}
 use Rattle.brep_file.specs.declared.records.Record.{Record}
 use Rattle.brep_file.specs.declared.file.File.{File}
 use Rattle.brep_file.specs.PlainRecords.{record_of, tree_of_record}
@@ -19,7 +16,6 @@ use Rattle.brep_run.specs.Dress.{head_for, made_head, rebuilt}
 use Rattle.brep_run.specs.Completion.{NumbersTell}
 use Rattle.brep_run.specs.Remaining.{kept_records, tree_after, record_after, is_touched, touched, IsFileAfter, AreChanges}
 use Rattle.brep_file.specs.Marks.{kept_uses, mark_of}
-use Rattle.brep_run.proofs.CopyLemmas.{record-at}
 use Rattle.brep_run.proofs.KeptLists.{filter-all, any-none}
 use Rattle.brep_run.proofs.WrittenSound.{perhaps}
 use Rattle.brep_run.proofs.RemovalTrees.{origin-after, touched-is}

@@ -1,8 +1,8 @@
 -- What a use of a record becomes, where records are removed by their numbers.
-use Rattle.std.proofs.Common.{◌≡◌, ◌<◌, ◌≤◌, ◌+◌, refl, sym, ◌∙◌, ap, subst, arith}
-use Rattle.std.specs.Prelude.{ℕ, zero, suc, Bool, true, false, not, if◌then◌else◌, Option, None, Some, List, [], ◌∷◌, ◌++◌, All, map, filter, length, Contains}
+use Rattle.std.proofs.Common.{◌≡◌, ◌<◌, ◌+◌, refl, sym, ◌∙◌, ap, arith}
+use Rattle.std.specs.Prelude.{ℕ, zero, suc, Bool, true, false, not, if◌then◌else◌, Option, None, Some, List, [], ◌∷◌, ◌++◌, All, map, length, Contains}
 use Rattle.std.specs.Option.{option_map}
-use Rattle.expansion_laws.specs.Trees.{Tree, Use, a_single, uses, origin, tree_of}
+use Rattle.expansion_laws.specs.Trees.{Use, a_single, uses, origin, tree_of}
 use Rattle.expansion_laws.specs.Contexts.{Context, inside}
 use Rattle.expansion_laws.specs.Expansion.{IsNumberOf}
 use Rattle.expansion_laws.specs.Requests.{Request, match_of}
@@ -11,9 +11,8 @@ use Rattle.expansion_laws.specs.Rewriting.{joined, all_results, rebuilt, by_act,
 use Rattle.expansion_laws.specs.Walk.{RecordsAreTrees}
 use Rattle.expansion_laws.proofs.Members.{by_test, Contains-here, Contains-there}
 use Rattle.brep_file.specs.declared.uses.FileUse.{FileUse}
-use Rattle.brep_file.specs.declared.records.Record.{Record}
 use Rattle.brep_file.specs.declared.file.File.{File}
-use Rattle.brep_file.specs.PlainRecords.{record_of, tree_of_record}
+use Rattle.brep_file.specs.PlainRecords.{tree_of_record}
 use Rattle.brep_run.specs.Completion.{NumbersTell, use_of_tree}
 use Rattle.brep_run.specs.Removal.{removals, removal_step}
 use Rattle.brep_run.specs.Remaining.{is_among, kept_records, tree_after}

@@ -1,13 +1,12 @@
 -- What remains of a file's records when some are removed: records of a file again, and their trees.
 use Rattle.std.proofs.Common.{◌≡◌, ◌<◌, ◌≤◌, ◌-◌, refl, sym, ◌∙◌, ap, subst, arith}
-use Rattle.std.specs.Prelude.{ℕ, max, Bool, true, false, not, ◌||◌, Some, List, [], ◌∷◌, All, map, filter, length, Contains, slice_get}
-use Rattle.std.specs.List.{list_any}
+use Rattle.std.specs.Prelude.{ℕ, Bool, true, false, not, ◌||◌, Some, List, All, map, length, Contains, slice_get}
 use Rattle.std.proofs.lemmas.List.{length-map}
 use Rattle.std.proofs.lemmas.List.Elements.{All-map, All-filter, All-contains, All-weaker}
 use Rattle.std.proofs.lemmas.Option.{same_Some}
 use Rattle.std.proofs.lemmas.Simd.{map-map}
 use Rattle.location_table.specs.Words.{word_of_place}
-use Rattle.expansion_laws.specs.Trees.{Tree, Use, node, uses, uses_of, origin, tree_of}
+use Rattle.expansion_laws.specs.Trees.{Tree, Use, node, uses, origin, tree_of}
 use Rattle.expansion_laws.specs.Equality.{tree_eq}
 use Rattle.expansion_laws.specs.Expansion.{NumberedUse, IsNumberOf, IsFile, expanded, trees_of_file}
 use Rattle.expansion_laws.specs.Walk.{RecordsAreTrees}
@@ -16,7 +15,7 @@ use Rattle.expansion_laws.proofs.Subtrees.{uses_of-list_of}
 use Rattle.brep_file.specs.declared.uses.FileUse.{FileUse}
 use Rattle.brep_file.specs.declared.records.Record.{Record}
 use Rattle.brep_file.specs.declared.file.File.{File}
-use Rattle.brep_file.specs.PlainRecords.{record_of, plain_use, plain_records, tree_of_record, plain_root}
+use Rattle.brep_file.specs.PlainRecords.{record_of, plain_use, tree_of_record, plain_root}
 use Rattle.brep_file.specs.Sound.{IsUse, IsSound}
 use Rattle.brep_run.specs.Completion.{NumbersTell, use_of_tree}
 use Rattle.brep_run.specs.Remaining.{kept_records, tree_after, is_touched}
@@ -24,7 +23,7 @@ use Rattle.brep_file.specs.Marks.{kept_uses}
 use Rattle.brep_run.proofs.CopyLemmas.{record-at}
 use Rattle.brep_run.proofs.KeptLists.{filter-all, any-none, map-same, map-kept}
 use Rattle.brep_run.proofs.NumberedRecords.{NamesAboveIts, map-from_end, names_from-numbers}
-use Rattle.brep_run.proofs.Numbering.{uses_of_tree, same_tree}
+use Rattle.brep_run.proofs.Numbering.{uses_of_tree}
 
 -- a tree is that of its origin and its uses
 pub tree-parts : (x : Tree) → x ≡ tree_of (origin x) (uses x)

@@ -1,8 +1,8 @@
 -- What is visited, and what its images are, where records are removed by their numbers.
-use Rattle.std.proofs.Common.{◌≡◌, ◌<◌, ◌≤◌, ◌+◌, refl, sym, ◌∙◌, ap, subst, arith, inl, inr}
-use Rattle.std.specs.Prelude.{ℕ, zero, suc, Bool, true, false, not, ◌⊎◌, Option, None, Some, List, [], ◌∷◌, map, filter, length, Contains}
+use Rattle.std.proofs.Common.{◌≡◌, ◌<◌, ◌+◌, refl, sym, ◌∙◌, ap, subst, arith, inl, inr}
+use Rattle.std.specs.Prelude.{ℕ, zero, suc, Bool, true, false, not, ◌⊎◌, List, [], ◌∷◌, map, length, Contains}
 use Rattle.orientation.specs.declared.turn.Turn.TheVariants.{Forward}
-use Rattle.expansion_laws.specs.Trees.{Tree, Use, a_single, uses, origin}
+use Rattle.expansion_laws.specs.Trees.{Tree, Use, a_single, uses}
 use Rattle.expansion_laws.specs.Contexts.{Context, at_root, inside, bare}
 use Rattle.expansion_laws.specs.Demands.{demands, demands_by, demands_of_act}
 use Rattle.expansion_laws.specs.Expansion.{IsNumberOf}

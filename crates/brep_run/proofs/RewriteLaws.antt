@@ -5,19 +5,21 @@ use Rattle.brep_desk.specs.Shown.{Shown, Tells}
 use Rattle.brep_desk.specs.Causes.{Rose}
 use Rattle.expansion_laws.specs.Walk.{RecordsAreTrees}
 use Rattle.script_text.specs.Lines.{script_line_count}
+use Rattle.brep_tokens.specs.declared.fault.ReadFault.{ReadFault}
 use Rattle.brep_file.specs.declared.file.File.{File}
 use Rattle.brep_run.specs.declared.outcome.Outcome.{Outcome}
 use Rattle.brep_run.specs.declared.outcome.Outcome.TheVariants.{Done, Usage, NotBuilt, Script, Limit, ReadDesk, WriteDesk, NoMemory}
+use Rattle.brep_run.specs.declared.outcome.Outcome.TheVariants as outcomes
 use Rattle.brep_run.specs.declared.outcome.LimitKind.{LimitKind}
 use Rattle.brep_run.specs.declared.outcome.LimitKind.TheVariants.{FileBytes, ScriptBytes, ScriptLines}
-use Rattle.brep_run.specs.Outcomes.{OnDone, OnUsage, OnNotBuilt, IfLimit, IfReadDesk, IfScript, IfWriteDesk, IsDoneOrNoMemory, IsReadDeskOrNoMemory}
+use Rattle.brep_run.specs.Outcomes.{OnDone, OnUsage, OnNotBuilt, IfFile, IfLimit, IfReadDesk, IfScript, IfWriteDesk, IsDoneOrNoMemory, IsReadDeskOrNoMemory}
 use Rattle.brep_file.specs.PlainRecords.{plain_records}
 use Rattle.brep_file.specs.Sound.{IsSound}
 use Rattle.brep_file.specs.Reads.{Reads, Spells}
 use Rattle.brep_file.specs.ReadingLaws.{ReadingIsExact}
 use Rattle.brep_run.specs.declared.outcome.ScriptFault.{ScriptFault}
 use Rattle.brep_run.specs.Copies.{IsTextFor}
-use Rattle.brep_run.specs.Copy.{Holds, Counts, most_bytes}
+use Rattle.brep_run.specs.Copy.{Holds, HoldsFault, Counts, most_bytes}
 use Rattle.brep_run.specs.Script.{removals, faulty, unbuilt}
 use Rattle.brep_run.specs.Rewrite.{HoldsFile, IsAccepted, given_for, AreDue, IsRewritten, IsRewriteStopped, RewriteExpands, RewriteShares, IsRewriteUnbuilt, IsRefusedLine, IsRewriteLimit, most_script_bytes, most_script_lines}
 use Rattle.brep_run.proofs.CopyLaws.{shared_in}
@@ -43,6 +45,7 @@ module _ (t : Tells) (old new : Shown) (source script target history : List ℕ)
   if_done_expands Done h = rewrite_expands h
   if_done_expands Usage h = tt
   if_done_expands NotBuilt h = tt
+  if_done_expands (outcomes.File fault) h = tt
   if_done_expands (Script fault) h = tt
   if_done_expands (Limit which count) h = tt
   if_done_expands (ReadDesk before after) h = tt
@@ -53,6 +56,7 @@ module _ (t : Tells) (old new : Shown) (source script target history : List ℕ)
   if_done_shares are Done h = rewrite_shares are h
   if_done_shares are Usage h = tt
   if_done_shares are NotBuilt h = tt
+  if_done_shares are (outcomes.File fault) h = tt
   if_done_shares are (Script fault) h = tt
   if_done_shares are (Limit which count) h = tt
   if_done_shares are (ReadDesk before after) h = tt
@@ -78,7 +82,7 @@ module _ (exact : ReadingIsExact) (old : Shown) (source : List ℕ) where
       omega (arith, few, long)
 
 -- a fault between the counts is a fault of the whole call
-rose-whole : (entry before after exit : ℕ) → Counts entry exit before after → Rose entry exit
+pub rose-whole : (entry before after exit : ℕ) → Counts entry exit before after → Rose entry exit
 rose-whole entry before after exit c =
     let a = c.from in
     let b = c.to in
@@ -95,10 +99,13 @@ module _ (exact : ReadingIsExact) (t : Tells) (old : Shown) (source script : Lis
   -- where the script is accepted too, a run has no other answer
   module _ (numbers : List ℕ) (accepted : IsAccepted old source script f numbers) where
     not-unbuilt : IsRewriteUnbuilt t old source script → ⊥
-    not-unbuilt h = elim (h held) [
-      | inl none ↦ no-file exact old source none.0 f none.1 none.2 file
-      | inr other ↦ (let e : removals numbers ≡ unbuilt = sym accepted.given ∙ given-one other.0 accepted.lines other.1 other.2 accepted.held.held other.3.held ∙ other.4 in cc)
-    ]
+    not-unbuilt h =
+        let other = h held in
+        let e : removals numbers ≡ unbuilt = sym accepted.given ∙ given-one other.0 accepted.lines other.1 other.2 accepted.held.held other.3.held ∙ other.4 in
+        cc
+
+    not-at-fault : (fault : ReadFault) → (IsTrue t.held → HoldsFault old source fault) → ⊥
+    not-at-fault fault h = (let is = h held in no-file exact old source is.bytes f is.holds is.none file)
 
     not-refused : (fault : ScriptFault) → IsRefusedLine t old source script fault → ⊥
     not-refused fault h =
@@ -122,16 +129,17 @@ module _ (exact : ReadingIsExact) (t : Tells) (old : Shown) (source script : Lis
         omega (arith, few, more)
 
     pub ready_is_done : (entry exit : ℕ) → (Rose entry exit → ⊥) → (o : Outcome) → OnUsage o ⊥ → OnNotBuilt o (IsRewriteUnbuilt t old source script) →
-        IfScript o (λ fault. IsRefusedLine t old source script fault) → IfLimit o (λ which count. IsRewriteLimit t old source script which count) →
+        IfFile o (λ fault. IsTrue t.held → HoldsFault old source fault) → IfScript o (λ fault. IsRefusedLine t old source script fault) → IfLimit o (λ which count. IsRewriteLimit t old source script which count) →
         IfReadDesk o (λ b a. Counts entry exit b a) → IfWriteDesk o (λ b a file taken. Counts entry exit b a) → IsDoneOrNoMemory o
-    ready_is_done entry exit calm Done u n s l r w = tt
-    ready_is_done entry exit calm Usage u n s l r w = absurd u
-    ready_is_done entry exit calm NotBuilt u n s l r w = absurd (not-unbuilt n)
-    ready_is_done entry exit calm (Script fault) u n s l r w = absurd (not-refused fault s)
-    ready_is_done entry exit calm (Limit which count) u n s l r w = absurd (not-limited which count l)
-    ready_is_done entry exit calm (ReadDesk before after) u n s l r w = absurd (calm (rose-whole entry before after exit r))
-    ready_is_done entry exit calm (WriteDesk before after file taken) u n s l r w = absurd (calm (rose-whole entry before after exit w))
-    ready_is_done entry exit calm NoMemory u n s l r w = tt
+    ready_is_done entry exit calm Done u n i s l r w = tt
+    ready_is_done entry exit calm Usage u n i s l r w = absurd u
+    ready_is_done entry exit calm NotBuilt u n i s l r w = absurd (not-unbuilt n)
+    ready_is_done entry exit calm (outcomes.File fault) u n i s l r w = absurd (not-at-fault fault i)
+    ready_is_done entry exit calm (Script fault) u n i s l r w = absurd (not-refused fault s)
+    ready_is_done entry exit calm (Limit which count) u n i s l r w = absurd (not-limited which count l)
+    ready_is_done entry exit calm (ReadDesk before after) u n i s l r w = absurd (calm (rose-whole entry before after exit r))
+    ready_is_done entry exit calm (WriteDesk before after file taken) u n i s l r w = absurd (calm (rose-whole entry before after exit w))
+    ready_is_done entry exit calm NoMemory u n i s l r w = tt
 
 -- a name that is missing doesn't hold bytes
 held-none : (old : Shown) (name bytes : List ℕ) → old.held name ≡ None → old.held name ≡ Some bytes → ⊥
@@ -149,13 +157,13 @@ module _ (exact : ReadingIsExact) (t : Tells) (old new : Shown) (source script t
   lacks-due text told due = (let is = due held in lacks-both is.0 is.3.lines is.3.file is.3.held.held)
 
   lacks-unbuilt : IsRewriteUnbuilt t old source script → ⊥
-  lacks-unbuilt h = elim (h held) [
-    | inl none ↦ elim lacks [
-      | inl absent ↦ held-none old source none.0 absent none.1.held
-      | inr absent ↦ no-file exact old source none.0 absent.1.0 none.1 none.2 absent.1.1
-    ]
-    | inr other ↦ lacks-both other.0 other.1 other.2 other.3.held
-  ]
+  lacks-unbuilt h = (let other = h held in lacks-both other.0 other.1 other.2 other.3.held)
+
+  lacks-fault : (fault : ReadFault) → (IsTrue t.held → HoldsFault old source fault) → ⊥
+  lacks-fault fault h = (let is = h held in elim lacks [
+    | inl absent ↦ held-none old source is.bytes absent is.holds.held
+    | inr absent ↦ no-file exact old source is.bytes absent.1.0 is.holds is.none absent.1.1
+  ])
 
   lacks-limit : (which : LimitKind) (count : ℕ) → IsRewriteLimit t old source script which count → ⊥
   lacks-limit FileBytes count h = (let long = h.1 held in elim lacks [
@@ -166,13 +174,14 @@ module _ (exact : ReadingIsExact) (t : Tells) (old new : Shown) (source script t
   lacks-limit ScriptLines count h = (let long = h.1 held in lacks-both long.0 long.2.lines long.1 long.2.held)
 
   pub missing_is_fault : (o : Outcome) → OnDone o (IsRewritten t old new source script target history) → OnUsage o ⊥ → OnNotBuilt o (IsRewriteUnbuilt t old source script) →
-      IfScript o (λ fault. IsRefusedLine t old source script fault) → IfLimit o (λ which count. IsRewriteLimit t old source script which count) →
+      IfFile o (λ fault. IsTrue t.held → HoldsFault old source fault) → IfScript o (λ fault. IsRefusedLine t old source script fault) → IfLimit o (λ which count. IsRewriteLimit t old source script which count) →
       IfWriteDesk o (λ b a file taken. IsRewriteStopped t old new source script target history file taken) → IsReadDeskOrNoMemory o
-  missing_is_fault Done d u n s l w = absurd (lacks-due d.0 d.1 d.2)
-  missing_is_fault Usage d u n s l w = absurd u
-  missing_is_fault NotBuilt d u n s l w = absurd (lacks-unbuilt n)
-  missing_is_fault (Script fault) d u n s l w = (let is = s held in absurd (lacks-both is.0 is.1 is.2 is.3.held))
-  missing_is_fault (Limit which count) d u n s l w = absurd (lacks-limit which count l)
-  missing_is_fault (ReadDesk before after) d u n s l w = tt
-  missing_is_fault (WriteDesk before after file taken) d u n s l w = absurd (lacks-due w.0 w.1 w.2)
-  missing_is_fault NoMemory d u n s l w = tt
+  missing_is_fault Done d u n i s l w = absurd (lacks-due d.0 d.1 d.2)
+  missing_is_fault Usage d u n i s l w = absurd u
+  missing_is_fault NotBuilt d u n i s l w = absurd (lacks-unbuilt n)
+  missing_is_fault (outcomes.File fault) d u n i s l w = absurd (lacks-fault fault i)
+  missing_is_fault (Script fault) d u n i s l w = (let is = s held in absurd (lacks-both is.0 is.1 is.2 is.3.held))
+  missing_is_fault (Limit which count) d u n i s l w = absurd (lacks-limit which count l)
+  missing_is_fault (ReadDesk before after) d u n i s l w = tt
+  missing_is_fault (WriteDesk before after file taken) d u n i s l w = absurd (lacks-due w.0 w.1 w.2)
+  missing_is_fault NoMemory d u n i s l w = tt

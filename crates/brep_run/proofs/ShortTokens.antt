@@ -13,7 +13,6 @@ use Rattle.orientation.specs.declared.kind.Kind.TheVariants.{Ve, Ed, Wi, Fa, Sh,
 use Rattle.orientation.specs.Kinds.{name_of}
 use Rattle.location_words.specs.declared.pair.Pair.{Pair}
 use Rattle.location_words.specs.Pairs.{most_power}
-use Rattle.location_table.specs.declared.entry.Factor.{Factor}
 use Rattle.location_table.specs.declared.entry.LocationEntry.{LocationEntry}
 use Rattle.location_table.specs.declared.entry.LocationEntry.TheVariants.{Datum, Product}
 use Rattle.location_table.specs.Locations.{factor, spell_factor, spell_location}
@@ -23,14 +22,19 @@ use Rattle.expansion_laws.specs.Trees.{Tree, origin}
 use Rattle.expansion_laws.specs.Equality.{tree_eq}
 use Rattle.expansion_laws.specs.Expansion.{IsNumberOf}
 use Rattle.expansion_laws.proofs.Members.{Contains-at, Contains-here, Contains-there, Contains-cases, Contains-none}
-use Rattle.brep_file.specs.declared.head.Flags.{Flags}
-use Rattle.brep_file.specs.declared.head.Head.{Head}
+use Rattle.tshape_data.specs.Flags.{spell_flags}
+use Rattle.tshape_data.specs.Laws.{PlacesMove}
+use Rattle.tshape_data.specs.Parts.{Part, token, entry, place, payload_parts}
+use Rattle.tshape_data.specs.Places.{moved_part, moved_payload, place_of_part, places_of}
+use Rattle.tshape_data.specs.Spelling.{part_text, spell_head, spell_payload}
+use Rattle.tshape_data.specs.declared.head.Head.{Head}
+use Rattle.tshape_data.specs.declared.head.Payload.{Payload}
 use Rattle.brep_file.specs.declared.uses.FileUse.{FileUse}
 use Rattle.brep_file.specs.declared.records.Record.{Record}
 use Rattle.brep_file.specs.declared.file.File.{File}
 use Rattle.brep_file.specs.PlainRecords.{record_of, tree_of_record}
 use Rattle.brep_file.specs.Sound.{IsRecord, IsSound, IsUse}
-use Rattle.brep_file.specs.Spelling.{section, spell_use, spell_file, spell_flags, spell_head, spell_payload, spell_record, spell_tables}
+use Rattle.brep_file.specs.Spelling.{section, spell_use, spell_file, spell_record, spell_tables}
 use Rattle.brep_run.specs.Dress.{head_for, made_head, rebuilt}
 use Rattle.brep_run.proofs.LayoutLemmas.{each-append, each-flat_map}
 
@@ -125,55 +129,73 @@ name-short Co = omega arith
 pub use-short : (u : FileUse) → u.number < 10 ^ 18 → u.location < 10 ^ 18 → AreShort (spell_use u)
 use-short u number location = (let a = number-short u.number number in let b = number-short u.location location in (omega (arith, a), (omega (arith, b), tt)))
 
-pub record-short : (r : Record) → AreShort (spell_payload r.head.payload) → AllByRecursion (λ (u : FileUse). (u.number < 10 ^ 18) × (u.location < 10 ^ 18)) r.uses → AreShort (spell_record r)
-record-short r payload uses =
-    each-append Short (spell_head r.head) (flat_map spell_use r.uses ++ codes "*" ∷ [])
-    (name-short r.head.kind, each-append Short (spell_payload r.head.payload) (spell_flags r.head.flags ∷ []) payload (omega arith, tt))
+-- ---- records
+pub record-short : (version : ℕ) (r : Record) → AreShort (spell_payload version r.head.payload) → AllByRecursion (λ (u : FileUse). (u.number < 10 ^ 18) × (u.location < 10 ^ 18)) r.uses →
+    AreShort (spell_record version r)
+record-short version r payload uses =
+    each-append Short (spell_head version r.head) (flat_map spell_use r.uses ++ codes "*" ∷ [])
+    (name-short r.head.kind, each-append Short (spell_payload version r.head.payload) (spell_flags r.head.flags ∷ []) payload (omega arith, tt))
     (each-append Short (flat_map spell_use r.uses) (codes "*" ∷ [])
     (each-flat_map (λ (u : FileUse). (u.number < 10 ^ 18) × (u.location < 10 ^ 18)) Short spell_use (λ u h. use-short u h.0 h.1) r.uses uses) (omega arith, tt))
 
 -- the data of a record of the file
-pub payload-of_record : (r : Record) → AreShort (spell_record r) → AreShort (spell_payload r.head.payload)
-payload-of_record r h =
-    each-left Short (spell_payload r.head.payload) (spell_flags r.head.flags ∷ []) (each-left Short (spell_head r.head) (flat_map spell_use r.uses ++ codes "*" ∷ []) h).1
+pub payload-of_record : (version : ℕ) (r : Record) → AreShort (spell_record version r) → AreShort (spell_payload version r.head.payload)
+payload-of_record version r h =
+    each-left Short (spell_payload version r.head.payload) (spell_flags r.head.flags ∷ [])
+    (each-left Short (spell_head version r.head) (flat_map spell_use r.uses ++ codes "*" ∷ []) h).1
 
-payload-perhaps : (b : Bool) (h : Head) → AreShort (spell_payload h.payload) → AreShort (spell_payload (if b then h else rebuilt h).payload)
-payload-perhaps true h s = s
-payload-perhaps false h s = s
+payload-perhaps : (version : ℕ) (b : Bool) (h : Head) → AreShort (spell_payload version h.payload) → AreShort (spell_payload version (if b then h else rebuilt h).payload)
+payload-perhaps version true h s = s
+payload-perhaps version false h s = s
 
-pub payload-chosen : (o : Option Record) (same : Bool) → ((r : Record) → o ≡ Some r → AreShort (spell_payload r.head.payload)) →
-    AreShort (spell_payload (option_map_or (λ (r : Record). if same then r.head else rebuilt r.head) o made_head).payload)
-payload-chosen None same h = tt
-payload-chosen (Some r) same h = payload-perhaps same r.head (h r refl)
+pub payload-chosen : (version : ℕ) (o : Option Record) (same : Bool) → ((r : Record) → o ≡ Some r → AreShort (spell_payload version r.head.payload)) →
+    AreShort (spell_payload version (option_map_or (λ (r : Record). if same then r.head else rebuilt r.head) o made_head).payload)
+payload-chosen version None same h = tt
+payload-chosen version (Some r) same h = payload-perhaps version same r.head (h r refl)
+
+-- with other numbers of locations
+moved-short : (move : ℕ → ℕ) (ps : List Part) → AreShort (map part_text ps) → ((n : ℕ) → Contains (flat_map place_of_part ps) n → move n < 10 ^ 18) → AreShort (map part_text (map (moved_part move) ps))
+moved-short move [] short small = tt
+moved-short move (token text ∷ ps) short small = (short.0, moved-short move ps short.1 small)
+moved-short move (entry table n ∷ ps) short small = (short.0, moved-short move ps short.1 small)
+moved-short move (place n ∷ ps) short small =
+    let number = number-short (move n) (small n (Contains-here n (flat_map place_of_part ps))) in
+    (omega (arith, number), moved-short move ps short.1 (λ m k. small m (Contains-there n m (flat_map place_of_part ps) k)))
+
+pub moved_payload-short : PlacesMove → (version : ℕ) (move : ℕ → ℕ) (p : Payload) → AreShort (spell_payload version p) → ((n : ℕ) → Contains (places_of version p) n → move n < 10 ^ 18) →
+    AreShort (spell_payload version (moved_payload move p))
+moved_payload-short law version move p short small =
+    subst (λ ps. AreShort (map part_text ps)) (sym (law.parts version move p)) (moved-short move (payload_parts version p) short small)
 
 -- ---- whole files
 -- the tokens after the tables
 abbrev pub shape_tokens : File → List (List ℕ)
-shape_tokens f = section (codes "TShapes") spell_record f.records ++ spell_use f.root
+shape_tokens f = section (codes "TShapes") (spell_record f.version) f.records ++ spell_use f.root
 
 -- the data under which a tree is written are a record's
-pub payload-for : (f : File) → IsSound f → (x : Tree) → AreShort (spell_payload (head_for f x).payload)
-payload-for f sound x = payload-chosen (record_of f (origin x)) (tree_eq x (tree_of_record f (origin x))) (λ r e.
-    payload-of_record r (each-contains (λ (q : Record). AreShort (spell_record q)) f.records r
-    (each-of Short spell_record f.records (each-left Short (section (codes "TShapes") spell_record f.records) (spell_use f.root) (each-right Short (spell_tables f) (shape_tokens f) sound.tokens)).1.1)
+pub payload-for : (f : File) → IsSound f → (x : Tree) → AreShort (spell_payload f.version (head_for f x).payload)
+payload-for f sound x = payload-chosen f.version (record_of f (origin x)) (tree_eq x (tree_of_record f (origin x))) (λ r e.
+    payload-of_record f.version r (each-contains (λ (q : Record). AreShort (spell_record f.version q)) f.records r
+    (each-of Short (spell_record f.version) f.records
+    (each-left Short (section (codes "TShapes") (spell_record f.version) f.records) (spell_use f.root) (each-right Short (spell_tables f) (shape_tokens f) sound.tokens)).1.1)
     (Contains-at f.records (length f.records - origin x) r e)))
 
 pub file-short : (g : File) → AreShort (spell_tables g) → length g.locations < 10 ^ 18 → length g.records < 10 ^ 18 →
     ((k : ℕ) (r : Record) → IsNumberOf (length g.records) k → record_of g k ≡ Some r → IsRecord g k r) →
-    ((k : ℕ) (r : Record) → IsNumberOf (length g.records) k → record_of g k ≡ Some r → AreShort (spell_payload r.head.payload)) →
+    ((k : ℕ) (r : Record) → IsNumberOf (length g.records) k → record_of g k ≡ Some r → AreShort (spell_payload g.version r.head.payload)) →
     IsNumberOf (length g.records) g.root.number → g.root.location ≤ length g.locations → AreShort (spell_file g)
 file-short g tables locations records each payloads root location =
     each-append Short (spell_tables g) (shape_tokens g) tables
-    (each-append Short (section (codes "TShapes") spell_record g.records) (spell_use g.root)
-    (section-short (codes "TShapes") spell_record g.records (omega arith) records
-    (each-flat_map (λ (r : Record). AreShort (spell_record r)) Short spell_record (λ r h. h) g.records
-    (recursion_from_All (λ (r : Record). AreShort (spell_record r)) g.records (λ i d lt.
+    (each-append Short (section (codes "TShapes") (spell_record g.version) g.records) (spell_use g.root)
+    (section-short (codes "TShapes") (spell_record g.version) g.records (omega arith) records
+    (each-flat_map (λ (r : Record). AreShort (spell_record g.version r)) Short (spell_record g.version) (λ r h. h) g.records
+    (recursion_from_All (λ (r : Record). AreShort (spell_record g.version r)) g.records (λ i d lt.
     let k : ℕ = length g.records - i in
     let back : length g.records - k ≡ i = omega (arith, lt) in
     let number : IsNumberOf (length g.records) k = (omega (arith, lt), omega arith) in
     let r : Record = get_or g.records i d in
     let at : record_of g k ≡ Some r = ap (slice_get g.records) back ∙ slice_get-get_or g.records i d lt in
-    record-short r (payloads k r number at)
+    record-short g.version r (payloads k r number at)
     (recursion_from_All (λ (u : FileUse). (u.number < 10 ^ 18) × (u.location < 10 ^ 18)) r.uses
     (All-weaker (IsUse g k r.head.kind) (λ (u : FileUse). (u.number < 10 ^ 18) × (u.location < 10 ^ 18))
     (λ u is. (let named = is.named in let place = is.location in (omega (arith, named, records), omega (arith, place, locations)))) r.uses (each k r number at).uses))))))

@@ -4,6 +4,7 @@ use Rattle.brep_desk.specs.Shown.{Shown, Tells, ChangesOnly}
 use Rattle.brep_desk.specs.Whole.{NothingWritten}
 use Rattle.brep_run.specs.declared.outcome.Outcome.{Outcome}
 use Rattle.brep_run.specs.declared.outcome.Outcome.TheVariants.{Done, Usage, NotBuilt, Script, Limit, ReadDesk, WriteDesk, NoMemory}
+use Rattle.brep_run.specs.declared.outcome.Outcome.TheVariants as outcomes
 use Rattle.brep_run.specs.Outcomes.{IfWriteDesk}
 use Rattle.brep_run.specs.Copy.{PrefixWritten, IsDue}
 
@@ -27,6 +28,7 @@ module _ (t : Tells) (a b d : Shown) (source name text : List ℕ) (quiet : Noth
   stopped_after due Done h = tt
   stopped_after due Usage h = tt
   stopped_after due NotBuilt h = tt
+  stopped_after due (outcomes.File fault) h = tt
   stopped_after due (Script fault) h = tt
   stopped_after due (Limit which count) h = tt
   stopped_after due (ReadDesk before after) h = tt

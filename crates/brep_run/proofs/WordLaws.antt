@@ -1,8 +1,8 @@
 -- The two names that a rewriting writes differ.
-use Rattle.std.proofs.Common.{◌≡◌, ℕ, List, [], ◌∷◌, Bool, true, false, if◌then◌else◌, refl, ap, sym, subst, ◌∙◌}
+use Rattle.std.proofs.Common.{◌≡◌, ℕ, List, [], ◌∷◌, Bool, true, false, if◌then◌else◌, refl, sym, subst, ◌∙◌}
 use Rattle.std.proofs.lemmas.Bool.{eq-eqb}
-use Rattle.std.specs.Prelude.{◌≢◌, ◌&&◌, not, nat_eq, codes}
-use Rattle.brep_run.specs.Words.{Asked, copies, rewrites, later, wrong, is_word, may_copy, may_rewrite, copy_of_names, rewrite_of_names, is_later, asked_of}
+use Rattle.std.specs.Prelude.{◌≢◌, ◌&&◌, not, codes}
+use Rattle.brep_run.specs.Words.{copies, rewrites, later, wrong, is_word, may_copy, may_rewrite, copy_of_names, rewrite_of_names, is_later, asked_of}
 
 text-same : (a : List ℕ) → is_word a a ≡ true
 text-same [] = refl

@@ -1,6 +1,6 @@
 -- The text of a root over a sound file, by the numbers of records.
 use Rattle.std.proofs.Common.{◌≡◌, ◌<◌, ◌-◌, refl, sym, ◌∙◌, ap, subst, arith, append_assoc, append-nil}
-use Rattle.std.specs.Prelude.{ℕ, zero, suc, if◌then◌else◌, Some, List, [], ◌∷◌, ◌++◌, All, map, length, slice_get, slice_index, slice_index_or, codes}
+use Rattle.std.specs.Prelude.{ℕ, zero, suc, Some, List, [], ◌∷◌, ◌++◌, All, map, length, slice_get, slice_index, slice_index_or, codes}
 use Rattle.std.specs.List.{flat_map}
 use Rattle.std.specs.Option.{option_map_or}
 use Rattle.std.proofs.lemmas.Grind.{flat_map-append}
@@ -12,19 +12,19 @@ use Rattle.location_words.specs.declared.pair.Pair.{Pair}
 use Rattle.location_table.specs.Words.{datums_of}
 use Rattle.location_table.specs.Written.{written_section}
 use Rattle.written_locations.specs.declared.written.WrittenLocations.{WrittenLocations}
+use Rattle.written_locations.specs.Met.{location_number}
+use Rattle.tshape_data.specs.Places.{moved_head}
 use Rattle.expansion_laws.specs.Trees.{Tree, Use, uses}
-use Rattle.expansion_laws.specs.Equality.{tree_eq}
 use Rattle.expansion_laws.specs.Expansion.{IsNumberOf}
 use Rattle.brep_file.specs.declared.uses.FileUse.{FileUse}
 use Rattle.brep_file.specs.declared.records.Record.{Record}
 use Rattle.brep_file.specs.declared.file.File.{File}
 use Rattle.brep_file.specs.PlainRecords.{record_of, tree_of_record, expansion_of}
 use Rattle.brep_file.specs.Spelling.{spell_use}
-use Rattle.brep_run.specs.Dress.{head_for, rebuilt, made_head}
 use Rattle.brep_run.specs.Layout.{Line, heading, location_lines, table_lines, shape_lines, record_lines, layout}
 use Rattle.brep_run.specs.WrittenFile.{location_under, written_use, written_record, written_file, text_of}
-use Rattle.brep_run.specs.Completion.{NumbersTell, ArePlaced, Completes, AreLocated, use_of_tree, renumbered_use, renumbered, lines_of_number, locations_of, locations_used, location_number}
-use Rattle.brep_run.proofs.Numbering.{plain_number, same_tree, uses_of_tree, number_of_tree}
+use Rattle.brep_run.specs.Completion.{NumbersTell, ArePlaced, Completes, AreLocated, use_of_tree, renumbered_use, renumbered, lines_of_number, locations_of, locations_used}
+use Rattle.brep_run.proofs.Numbering.{head_is, uses_of_tree, number_of_tree}
 use Rattle.brep_run.proofs.LocatedTexts.{location-is, words-are}
 
 at_place : {X : Type 0} (xs : List X) (i : ℕ) → i < length xs → (x : X) × (slice_get xs i ≡ Some x)
@@ -40,11 +40,12 @@ map_same g h (u ∷ us) each =
     λ i. first i ∷ rest i
 
 -- the parts of a layout
-shapes_text : (records : List Record) (root : FileUse) → lines_text (heading (codes "TShapes") (length records) ∷ (flat_map record_lines records ++ spell_use root ∷ []))
-    ≡ line_text (heading (codes "TShapes") (length records)) ++ (lines_text (flat_map record_lines records) ++ line_text (spell_use root))
-shapes_text records root =
+shapes_text : (version : ℕ) (records : List Record) (root : FileUse) → lines_text (heading (codes "TShapes") (length records) ∷ (flat_map (record_lines version) records ++ spell_use root ∷ []))
+    ≡ line_text (heading (codes "TShapes") (length records)) ++ (lines_text (flat_map (record_lines version) records) ++ line_text (spell_use root))
+shapes_text version records root =
     ap (λ t. line_text (heading (codes "TShapes") (length records)) ++ t)
-    (flat_map-append line_text (flat_map record_lines records) (spell_use root ∷ []) ∙ ap (λ t. lines_text (flat_map record_lines records) ++ t) (append-nil (line_text (spell_use root))))
+    (flat_map-append line_text (flat_map (record_lines version) records) (spell_use root ∷ [])
+    ∙ ap (λ t. lines_text (flat_map (record_lines version) records) ++ t) (append-nil (line_text (spell_use root))))
 
 joined : (a b c d : List ℕ) → (a ++ 10 ∷ []) ++ (b ++ (c ++ d)) ≡ a ++ 10 ∷ ((b ++ c) ++ d)
 joined a b c d = simp append_assoc
@@ -54,14 +55,6 @@ layout_text g =
     ap (λ t. version_line g.version ++ 10 ∷ t)
     (flat_map-append line_text (location_lines g.locations ++ table_lines g) (shape_lines g) ∙ ap (λ t. t ++ lines_text (shape_lines g)) (flat_map-append line_text (location_lines g.locations) (table_lines g)))
     ∙ sym (joined (version_line g.version) (lines_text (location_lines g.locations)) (lines_text (table_lines g)) (lines_text (shape_lines g)))
-
--- the tree of a record has the record's own head
-pub head_is : (f : File) → NumbersTell f → (k : ℕ) (r : Record) → IsNumberOf (length f.records) k → record_of f k ≡ Some r → head_for f (tree_of_record f k) ≡ r.head
-head_is f tell k r n is =
-    let x : Tree = tree_of_record f k in
-    ap (λ j. option_map_or (λ s. if tree_eq x (tree_of_record f j) then s.head else rebuilt s.head) (record_of f j) made_head) (tell.trees.origins k (plain_number f k n))
-    ∙ ap (λ b. option_map_or (λ s. if b then s.head else rebuilt s.head) (record_of f k) made_head) (same_tree f tell k)
-    ∙ ap (λ o. option_map_or (λ s. s.head) o made_head) is
 
 module _ (f : File) (tell : NumbersTell f) (numbers places : List ℕ) (placed : ArePlaced (length f.records) numbers places) where
   pub uses_placed : (k : ℕ) (r : Record) → IsNumberOf (length f.records) k → record_of f k ≡ Some r → All (λ u. IsNumberOf (length places) u.number) r.uses
@@ -100,25 +93,26 @@ module _ (f : File) (tell : NumbersTell f) (numbers places : List ℕ) (placed :
         written_record f location trees (tree_of_record f k) ≡ renumbered numbers places (location_number s) r
     record_is k r n is =
         let heads = head_is f tell k r n is in let all_uses = uses_are k r n is in
-        λ i. record { head = heads i; uses = all_uses i }
+        let number = location-is f tell numbers places placed completes s located in
+        λ i. record { head = moved_head (λ j. sym (number j) i) (heads i); uses = all_uses i }
 
     lines_are : (k : ℕ) → IsNumberOf (length f.records) k →
-        lines_of_number f numbers places (location_number s) k ≡ lines_text (record_lines (written_record f location trees (tree_of_record f k)))
+        lines_of_number f numbers places (location_number s) k ≡ lines_text (record_lines f.version (written_record f location trees (tree_of_record f k)))
     lines_are k n =
         let low = n.0 in let high = n.1 in
         let r = at_place f.records (length f.records - k) (omega (arith, low, high)) in
-        ap (λ o. option_map_or (λ q. lines_text (record_lines (renumbered numbers places (location_number s) q))) o []) r.1
-        ∙ ap (λ q. lines_text (record_lines q)) (sym (record_is k r.0 n r.1))
+        ap (λ o. option_map_or (λ q. lines_text (record_lines f.version (renumbered numbers places (location_number s) q))) o []) r.1
+        ∙ ap (λ q. lines_text (record_lines f.version q)) (sym (record_is k r.0 n r.1))
 
     records_text : (ns : List ℕ) → ((i : ℕ) → i < length ns → IsNumberOf (length f.records) (slice_index ns i)) →
-        flat_map (lines_of_number f numbers places (location_number s)) ns ≡ lines_text (flat_map record_lines (map (written_record f location trees) (map (tree_of_record f) ns)))
+        flat_map (lines_of_number f numbers places (location_number s)) ns ≡ lines_text (flat_map (record_lines f.version) (map (written_record f location trees) (map (tree_of_record f) ns)))
     records_text [] named = refl
     records_text (k ∷ ns) named =
         let first = lines_are k (named 0 (omega arith)) in
         let rest = records_text ns (λ i lt. named (suc i) (omega (arith, lt))) in
         (λ i. first i ++ rest i)
-        ∙ sym (flat_map-append line_text (record_lines (written_record f location trees (tree_of_record f k)))
-        (flat_map record_lines (map (written_record f location trees) (map (tree_of_record f) ns))))
+        ∙ sym (flat_map-append line_text (record_lines f.version (written_record f location trees (tree_of_record f k)))
+        (flat_map (record_lines f.version) (map (written_record f location trees) (map (tree_of_record f) ns))))
 
     -- the lines of the records and the root use
     pub shapes_are : lines_text (shape_lines (written_file f (expansion_of f)))
@@ -127,9 +121,9 @@ module _ (f : File) (tell : NumbersTell f) (numbers places : List ℕ) (placed :
         let written : List Record = map (written_record f location trees) trees in
         let long : length written ≡ length numbers = length-map trees (written_record f location trees) ∙ length-map numbers (tree_of_record f) in
         let same_root : written_use location trees (expansion_of f) ≡ renumbered_use numbers places (location_number s) f.root = use_is f.root tell.sound.root in
-        let same_lines : lines_text (flat_map record_lines written) ≡ flat_map (lines_of_number f numbers places (location_number s)) numbers = sym (records_text numbers placed.named) in
-        ap (λ ts. lines_text (heading (codes "TShapes") (length (map (written_record f location ts) ts)) ∷ (flat_map record_lines (map (written_record f location ts) ts) ++ spell_use (written_use location ts (expansion_of f)) ∷ []))) (sym completes.trees)
-        ∙ shapes_text written (written_use location trees (expansion_of f))
+        let same_lines : lines_text (flat_map (record_lines f.version) written) ≡ flat_map (lines_of_number f numbers places (location_number s)) numbers = sym (records_text numbers placed.named) in
+        ap (λ ts. lines_text (heading (codes "TShapes") (length (map (written_record f location ts) ts)) ∷ (flat_map (record_lines f.version) (map (written_record f location ts) ts) ++ spell_use (written_use location ts (expansion_of f)) ∷ []))) (sym completes.trees)
+        ∙ shapes_text f.version written (written_use location trees (expansion_of f))
         ∙ (λ i. line_text (heading (codes "TShapes") (long i)) ++ (same_lines i ++ line_text (spell_use (same_root i))))
 
     -- the lines of the locations
@@ -142,19 +136,12 @@ module _ (f : File) (tell : NumbersTell f) (numbers places : List ℕ) (placed :
 parted : (a b c d : List ℕ) → (a ++ 10 ∷ []) ++ (b ++ (c ++ d)) ≡ (((a ++ 10 ∷ []) ++ b) ++ c) ++ d
 parted a b c d = simp append_assoc
 
-first_line : version_line 1 ++ 10 ∷ [] ≡ codes "CASCADE Topology V1, (c) Matra-Datavision\n"
-unfolding version_line
-first_line = refl
-
-pub text_parts : (f : File) (root : Use) → f.version ≡ 1 → (lines : List Line) → lines ≡ location_lines (written_file f root).locations → text_of f root
-    ≡ ((codes "CASCADE Topology V1, (c) Matra-Datavision\n" ++ lines_text lines) ++ lines_text (table_lines f)) ++ lines_text (shape_lines (written_file f root))
-text_parts f root version lines same =
+pub text_parts : (f : File) (root : Use) (lines : List Line) → lines ≡ location_lines (written_file f root).locations → text_of f root
+    ≡ (((version_line f.version ++ 10 ∷ []) ++ lines_text lines) ++ lines_text (table_lines f)) ++ lines_text (shape_lines (written_file f root))
+text_parts f root lines same =
     layout_text (written_file f root)
     ∙ parted (version_line f.version) (lines_text (location_lines (written_file f root).locations)) (lines_text (table_lines f)) (lines_text (shape_lines (written_file f root)))
-    ∙ (λ i. (((version_text i) ++ lines_text (same_back i)) ++ lines_text (table_lines f)) ++ lines_text (shape_lines (written_file f root)))
+    ∙ (λ i. (((version_line f.version ++ 10 ∷ []) ++ lines_text (same_back i)) ++ lines_text (table_lines f)) ++ lines_text (shape_lines (written_file f root)))
   where
-    version_text : version_line f.version ++ 10 ∷ [] ≡ codes "CASCADE Topology V1, (c) Matra-Datavision\n"
-    version_text = ap (λ v. version_line v ++ 10 ∷ []) version ∙ first_line
-
     same_back : location_lines (written_file f root).locations ≡ lines
     same_back = sym same

@@ -7,13 +7,14 @@ use Rattle.location_table.specs.Words.{datums_of, word_of_place}
 use Rattle.location_table.specs.Written.{written_section}
 use Rattle.written_locations.specs.declared.written.WrittenLocations.{WrittenLocations}
 use Rattle.written_locations.specs.Further.{further_words}
-use Rattle.written_locations.specs.Met.{further_of, number_at, word_at, HasMet, IsNumbering}
+use Rattle.written_locations.specs.Met.{further_of, HasMet, IsNumbering}
 use Rattle.brep_tokens.specs.Written.{lines_text}
 use Rattle.expansion_laws.specs.Trees.{Tree, Use, uses_of}
 use Rattle.expansion_laws.specs.Equality.{tree_eq}
 use Rattle.expansion_laws.specs.Expansion.{IsNumberOf, expanded, trees_of_file}
 use Rattle.expansion_laws.specs.Walk.{RecordsAreTrees}
 use Rattle.expansion_laws.specs.Written.{completed, completed_uses}
+use Rattle.tshape_data.specs.Places.{moved_head, places_of}
 use Rattle.brep_file.specs.declared.uses.FileUse.{FileUse}
 use Rattle.brep_file.specs.declared.records.Record.{Record}
 use Rattle.brep_file.specs.declared.file.File.{File}
@@ -55,22 +56,26 @@ pub record CompletesUses (f : File) (us : List FileUse) (before after : List ℕ
 abbrev pub new_number : List ℕ → List ℕ → ℕ → ℕ
 new_number numbers places k = if slice_index places (k - 1) == 0 then 0 else suc (length numbers - slice_index places (k - 1))
 
--- a use and a record with the new numbers of records and of locations
+-- a use and a record with the new numbers of records and of locations, also of those in its data
 abbrev pub renumbered_use : List ℕ → List ℕ → (ℕ → ℕ) → FileUse → FileUse
 renumbered_use numbers places location u = record { turn = u.turn; number = new_number numbers places u.number; location = location u.location }
 
 abbrev pub renumbered : List ℕ → List ℕ → (ℕ → ℕ) → Record → Record
-renumbered numbers places location r = record { head = r.head; uses = map (renumbered_use numbers places location) r.uses }
+renumbered numbers places location r = record { head = moved_head location r.head; uses = map (renumbered_use numbers places location) r.uses }
 
 -- the lines of the record with a number
 abbrev pub lines_of_number : File → List ℕ → List ℕ → (ℕ → ℕ) → ℕ → List ℕ
-lines_of_number f numbers places location k = option_map_or (λ r. lines_text (record_lines (renumbered numbers places location r))) (record_of f k) []
+lines_of_number f numbers places location k = option_map_or (λ r. lines_text (record_lines f.version (renumbered numbers places location r))) (record_of f k) []
 
 -- ---- locations
 
--- the locations of the record with a number: those of its data, of which there are none, and those of its uses
+-- the locations of a record in a file of a version: those of its data, and those of its uses
+abbrev pub locations_in : ℕ → Record → List ℕ
+locations_in version r = places_of version r.head.payload ++ map (λ u. u.location) r.uses
+
+-- those of the record with a number
 abbrev pub locations_of_number : File → ℕ → List ℕ
-locations_of_number f k = option_map_or (λ r. map (λ u. u.location) r.uses) (record_of f k) []
+locations_of_number f k = option_map_or (locations_in f.version) (record_of f k) []
 
 -- the locations in the records with these numbers, in their order, and that of the root use
 abbrev pub locations_used : File → List ℕ → List ℕ
@@ -86,7 +91,3 @@ pub record AreLocated (f : File) (locations : List ℕ) (s : WrittenLocations) :
 -- the locations that are written: the datums, and the further words
 abbrev pub locations_of : WrittenLocations → List LocationEntry
 locations_of s = written_section (datums_of s.section.now) (further_of s)
-
--- the new number of a location
-abbrev pub location_number : WrittenLocations → ℕ → ℕ
-location_number s k = number_at s (word_at s k)

@@ -1,5 +1,5 @@
 -- What the text written for a root says of it.
-use Rattle.std.specs.Prelude.{◌≡◌, ℕ, length, ◌<◌, ◌^◌, ◌≤◌, ◌⊎◌, ◌↔◌, List, [], Contains}
+use Rattle.std.specs.Prelude.{◌≡◌, ℕ, length, ◌<◌, ◌^◌, ◌≤◌, ◌⊎◌, ◌↔◌, List, Contains}
 use Rattle.orientation.specs.Kinds.{IsBelow}
 use Rattle.location_table.specs.Words.{datums_of}
 use Rattle.location_table.specs.Written.{IsWordOver}

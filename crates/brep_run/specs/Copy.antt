@@ -1,9 +1,12 @@
 -- What stands after a copy, whole or stopped.
-use Rattle.std.specs.Prelude.{ℕ, ◌≡◌, ◌⊎◌, ◌+◌, ◌≤◌, IsTrue, true, false, List, length, take, Some, None}
+use Rattle.std.specs.Prelude.{ℕ, ◌≡◌, ◌⊎◌, ◌≤◌, IsTrue, true, false, List, length, take, Some, Err}
 use Rattle.brep_desk.specs.Shown.{Shown, Tells, ChangesOnly}
 use Rattle.brep_desk.specs.Whole.{NoMoreOpen}
 use Rattle.brep_desk.specs.Causes.{Rose}
+use Rattle.brep_tokens.specs.declared.fault.ReadFault.{ReadFault}
 use Rattle.brep_file.specs.declared.file.File.{File}
+use Rattle.brep_file.specs.FileReading.{read_text}
+use Rattle.brep_file.specs.Sound.{file_limits}
 use Rattle.brep_file.specs.PlainRecords.{expansion_of}
 use Rattle.brep_file.specs.Reads.{Reads, Spells}
 use Rattle.brep_run.specs.WrittenFile.{text_of}
@@ -46,6 +49,13 @@ pub record IsCopyOf (bytes text : List ℕ) (f : File) : Type 0 where
 pub record Holds (old : Shown) (source bytes : List ℕ) : Type 0 where
   pub held : old.held source ≡ Some bytes
   pub few : length bytes ≤ most_bytes
+
+-- the source holds bytes that no file spells, and this is the fault of the first token that isn't accepted
+pub record HoldsFault (old : Shown) (source : List ℕ) (fault : ReadFault) : Type 0 where
+  pub bytes : List ℕ
+  pub holds : Holds old source bytes
+  pub first : read_text file_limits bytes ≡ Err fault
+  pub none : (f : File) → Reads bytes f → ⊥
 
 abbrev pub IsDue : Tells → Shown → List ℕ → List ℕ → Type 0
 IsDue t old source text = IsTrue t.held → (bytes : List ℕ) × (f : File) × Holds old source bytes × IsCopyOf bytes text f

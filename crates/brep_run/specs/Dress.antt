@@ -1,34 +1,64 @@
 -- Trees with the data of their records in place of origins.
-use Rattle.std.specs.Prelude.{ℕ, true, false, if◌then◌else◌, List, map}
+use Rattle.std.specs.Prelude.{ℕ, zero, suc, true, false, if◌then◌else◌, List, [], map, slice_get, Option, None}
 use Rattle.std.specs.Option.{option_map_or}
+use Rattle.location_words.specs.declared.pair.Pair.{Pair}
+use Rattle.location_table.specs.Words.{word_of_place}
+use Rattle.curve_tables.specs.Spelling.{spelling2, spelling3}
+use Rattle.mesh_tables.specs.Spelling.{spell_polygon, spell_polygon_on, spell_mesh}
+use Rattle.surface_tables.specs.Spelling.{spell_surface}
 use Rattle.orientation.specs.declared.kind.Kind.{Kind}
 use Rattle.orientation.specs.declared.kind.Kind.TheVariants.{Co}
 use Rattle.expansion_laws.specs.Trees.{LabelledUse, Tree, Use, origin}
 use Rattle.expansion_laws.specs.Equality.{tree_eq}
 use Rattle.expansion_laws.specs.Sharing.{relabelled_use}
-use Rattle.brep_file.specs.declared.head.Flags.{Flags}
-use Rattle.brep_file.specs.declared.head.Payload.{Payload}
-use Rattle.brep_file.specs.declared.head.Payload.TheVariants.{Nothing}
-use Rattle.brep_file.specs.declared.head.Head.{Head}
+use Rattle.tshape_data.specs.Parts.{Part, payload_parts}
+use Rattle.tshape_data.specs.Parts as parts
+use Rattle.tshape_data.specs.declared.columns.Table.{Table}
+use Rattle.tshape_data.specs.declared.columns.Table.TheVariants.{Curve2s, Curves, Polygons, PolygonsOn, Surfaces, Meshes}
+use Rattle.tshape_data.specs.declared.head.Flags.{Flags}
+use Rattle.tshape_data.specs.declared.head.Payload.TheVariants.{Nothing}
+use Rattle.tshape_data.specs.declared.head.Head.{Head}
 use Rattle.brep_file.specs.declared.file.File.{File}
-use Rattle.brep_file.specs.Spelling.{spell_payload}
 use Rattle.brep_file.specs.PlainRecords.{record_of, tree_of_record, expansion_of}
 
--- a part of a record's data that no number of a file stands in: a token
-pub data Part : Type 0 where
-  token : List ℕ → Part
+-- a part of a record's data that no number of a file stands in
+pub data DressedPart : Type 0 where
+  token : List ℕ → DressedPart
+  -- the tokens of an entry
+  entry : List (List ℕ) → DressedPart
+  -- the word of a location
+  word : List Pair → DressedPart
 
-abbrev pub parts_of : Payload → List Part
-parts_of p = map token (spell_payload p)
+-- the entry with a number, counted from 1
+abbrev pub entry_of : {A : Type 0} → List A → ℕ → Option A
+entry_of entries zero = None
+entry_of entries (suc k) = slice_get entries k
+
+-- its tokens; 0 is no entry
+abbrev pub tokens_of : {A : Type 0} → (A → List (List ℕ)) → List A → ℕ → List (List ℕ)
+tokens_of spell entries n = option_map_or spell (entry_of entries n) []
+
+abbrev pub entry_tokens : File → Table → ℕ → List (List ℕ)
+entry_tokens f Curve2s n = tokens_of spelling2 f.curve2s n
+entry_tokens f Curves n = tokens_of spelling3 f.curves n
+entry_tokens f Polygons n = tokens_of spell_polygon f.polygons n
+entry_tokens f PolygonsOn n = tokens_of spell_polygon_on f.polygons_on n
+entry_tokens f Surfaces n = tokens_of spell_surface f.surfaces n
+entry_tokens f Meshes n = tokens_of spell_mesh f.meshes n
+
+abbrev pub dressed_part : File → Part → DressedPart
+dressed_part f (parts.token text) = token text
+dressed_part f (parts.entry table n) = entry (entry_tokens f table n)
+dressed_part f (parts.place n) = word (word_of_place f.locations n)
 
 -- what a dressed tree says of a node
 pub record Dressed : Type 0 where
   pub kind : Kind
-  pub parts : List Part
+  pub parts : List DressedPart
   pub flags : Flags
 
-abbrev pub dressed : Head → Dressed
-dressed h = record { kind = h.kind; parts = parts_of h.payload; flags = h.flags }
+abbrev pub dressed : File → Head → Dressed
+dressed f h = record { kind = h.kind; parts = map (dressed_part f) (payload_parts f.version h.payload); flags = h.flags }
 
 -- the compound that is made at the root
 abbrev pub made_head : Head
@@ -44,7 +74,7 @@ head_for f x = option_map_or (λ r. if tree_eq x (tree_of_record f (origin x)) t
 
 -- a tree over a file's records, dressed
 abbrev pub dress : File → Use → LabelledUse Dressed
-dress f root = relabelled_use (λ x. dressed (head_for f x)) root
+dress f root = relabelled_use (λ x. dressed f (head_for f x)) root
 
 -- the head of the record with a number
 abbrev pub head_of : File → ℕ → Head
@@ -52,4 +82,4 @@ head_of f number = option_map_or (λ r. r.head) (record_of f number) made_head
 
 -- the full expansion of a file: the expansion with the data of each record
 abbrev pub full : File → LabelledUse Dressed
-full f = relabelled_use (λ x. dressed (head_of f (origin x))) (expansion_of f)
+full f = relabelled_use (λ x. dressed f (head_of f (origin x))) (expansion_of f)

@@ -1,20 +1,18 @@
 -- The written layout of a file: which words stand on which line.
-use Rattle.std.specs.Prelude.{ℕ, List, [], ◌∷◌, ◌++◌, length, map, take, drop, codes}
+use Rattle.std.specs.Prelude.{ℕ, List, [], ◌∷◌, ◌++◌, length, map, codes}
 use Rattle.std.specs.List.{flat_map}
 use Rattle.std.specs.Fmt.{decimal}
 use Rattle.brep_tokens.specs.Tokens.{version_line}
 use Rattle.brep_tokens.specs.Written.{lines_text}
-use Rattle.orientation.specs.Kinds.{name_of}
 use Rattle.location_table.specs.Locations.{spell_location}
 use Rattle.location_table.specs.declared.entry.LocationEntry.{LocationEntry}
 use Rattle.curve_tables.specs.Spelling.{spelling2, spelling3}
 use Rattle.mesh_tables.specs.Spelling.{spell_polygon, spell_polygon_on, spell_mesh}
 use Rattle.surface_tables.specs.Spelling.{spell_surface}
-use Rattle.brep_file.specs.declared.head.Payload.{Payload}
-use Rattle.brep_file.specs.declared.head.Payload.TheVariants.{Vertex, Nothing}
+use Rattle.tshape_data.specs.Lines.{head_lines}
 use Rattle.brep_file.specs.declared.records.Record.{Record}
 use Rattle.brep_file.specs.declared.file.File.{File}
-use Rattle.brep_file.specs.Spelling.{spell_use, spell_flags}
+use Rattle.brep_file.specs.Spelling.{spell_use}
 
 abbrev pub Line : Type 0
 Line = List (List ℕ)
@@ -40,18 +38,13 @@ table_lines f =
     ++ (section_lines (codes "Surfaces") spell_surface f.surfaces
     ++ section_lines (codes "Triangulations") spell_mesh f.meshes))))
 
--- of a vertex a line with the tolerance, one with the coordinates, and `0 0`
-abbrev pub payload_lines : Payload → List Line
-payload_lines (Vertex d) = take 1 d.texts ∷ drop 1 d.texts ∷ (codes "0" ∷ codes "0" ∷ []) ∷ []
-payload_lines Nothing = []
-
--- the kind, the data, an empty line, the flags, and the uses with `*`
-abbrev pub record_lines : Record → List Line
-record_lines r = (name_of r.head.kind ∷ []) ∷ (payload_lines r.head.payload ++ [] ∷ (spell_flags r.head.flags ∷ []) ∷ (flat_map spell_use r.uses ++ codes "*" ∷ []) ∷ [])
+-- a record of a file of a version: its kind, its data, an empty line, its flags, and its uses with `*`
+abbrev pub record_lines : ℕ → Record → List Line
+record_lines version r = head_lines version r.head ++ (flat_map spell_use r.uses ++ codes "*" ∷ []) ∷ []
 
 -- the heading of the records, the records and the root use
 abbrev pub shape_lines : File → List Line
-shape_lines f = heading (codes "TShapes") (length f.records) ∷ (flat_map record_lines f.records ++ spell_use f.root ∷ [])
+shape_lines f = heading (codes "TShapes") (length f.records) ∷ (flat_map (record_lines f.version) f.records ++ spell_use f.root ∷ [])
 
 -- the lines after the version line
 abbrev pub file_lines : File → List Line

@@ -12,4 +12,5 @@ pub mod Completion
 pub mod Remaining
 pub mod Removal
 pub mod Rewrite
+pub mod Inputs
 pub mod Runs

@@ -3,7 +3,8 @@ use Rattle.std.specs.Prelude.{ℕ}
 use Rattle.brep_run.specs.declared.outcome.Outcome.{Outcome}
 use Rattle.brep_run.specs.declared.outcome.LimitKind.{LimitKind}
 use Rattle.brep_run.specs.declared.outcome.ScriptFault.{ScriptFault}
-use Rattle.brep_run.specs.declared.outcome.Outcome.TheVariants.{Done, Usage, NotBuilt, Script, Limit, ReadDesk, WriteDesk, NoMemory}
+use Rattle.brep_tokens.specs.declared.fault.ReadFault.{ReadFault}
+use Rattle.brep_run.specs.declared.outcome.Outcome.TheVariants.{Done, Usage, NotBuilt, File, Script, Limit, ReadDesk, WriteDesk, NoMemory}
 
 abbrev pub OnDone : Outcome → Type 0 → Type 0
 OnDone Done P = P
@@ -16,6 +17,10 @@ OnUsage _ P = Unit {0}
 abbrev pub OnNotBuilt : Outcome → Type 0 → Type 0
 OnNotBuilt NotBuilt P = P
 OnNotBuilt _ P = Unit {0}
+
+abbrev pub IfFile : Outcome → (ReadFault → Type 0) → Type 0
+IfFile (File fault) P = P fault
+IfFile _ P = Unit {0}
 
 abbrev pub IfScript : Outcome → (ScriptFault → Type 0) → Type 0
 IfScript (Script fault) P = P fault

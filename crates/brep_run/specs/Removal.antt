@@ -1,5 +1,5 @@
 -- A step that removes shapes by their records' numbers: its requests, the root that it makes, and its history in numbers.
-use Rattle.std.specs.Prelude.{◌≡◌, ℕ, ◌-◌, ◌<◌, Option, None, Some, List, [], ◌∷◌, map, length, reverse, slice_get, unwrap_or, Contains}
+use Rattle.std.specs.Prelude.{◌≡◌, ℕ, ◌-◌, ◌<◌, None, List, [], ◌∷◌, map, length, reverse, slice_get, unwrap_or, Contains}
 use Rattle.orientation.specs.declared.kind.Kind.{Kind}
 use Rattle.expansion_laws.specs.Trees.{Tree, Use, origin, tree_of}
 use Rattle.expansion_laws.specs.Requests.{Request, remove}

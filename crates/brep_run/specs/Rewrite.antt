@@ -122,11 +122,10 @@ IsRewriteStopped t old new source script target history file taken =
 
 -- ---- refusals, where it is told what the names hold
 
--- the source holds no file that is read, or no line of the script is faulty and a command does something else than remove a shape
+-- no line of the script is faulty, and a command does something else than remove a shape
 abbrev pub IsRewriteUnbuilt : Tells → Shown → List ℕ → List ℕ → Type 0
 IsRewriteUnbuilt t old source script = IsTrue t.held →
-    ((bytes : List ℕ) × Holds old source bytes × ((f : File) → Reads bytes f → ⊥))
-    ⊎ ((f : File) × (lines : List ℕ) × HoldsFile old source f × HoldsScript old script lines × (given_for f lines ≡ unbuilt))
+    (f : File) × (lines : List ℕ) × HoldsFile old source f × HoldsScript old script lines × (given_for f lines ≡ unbuilt)
 
 -- a line of the script is faulty, and it is the first
 abbrev pub IsRefusedLine : Tells → Shown → List ℕ → List ℕ → ScriptFault → Type 0

@@ -1,15 +1,18 @@
 -- What a run does to the desk, and when it answers what, by what is asked.
-use Rattle.std.specs.Prelude.{◌≡◌, ◌⊎◌, ℕ, ◌+◌, IsTrue, List, None}
+use Rattle.std.specs.Prelude.{◌≡◌, ◌⊎◌, ℕ, ◌+◌, IsTrue, List, None, Err}
 use Rattle.brep_desk.specs.Shown.{Shown, Tells}
 use Rattle.brep_desk.specs.Strays.{IsHeldIfTold}
 use Rattle.brep_desk.specs.Whole.{IsLonger}
+use Rattle.brep_tokens.specs.declared.fault.ReadFault.{ReadFault}
 use Rattle.brep_file.specs.declared.file.File.{File}
+use Rattle.brep_file.specs.FileReading.{read_text}
+use Rattle.brep_file.specs.Sound.{file_limits}
 use Rattle.brep_run.specs.declared.outcome.LimitKind.{LimitKind}
 use Rattle.brep_run.specs.declared.outcome.LimitKind.TheVariants.{FileBytes}
 use Rattle.brep_run.specs.declared.outcome.ScriptFault.{ScriptFault}
 use Rattle.brep_run.specs.Words.{Asked, copies, rewrites, later, wrong}
 use Rattle.brep_file.specs.Reads.{Reads}
-use Rattle.brep_run.specs.Copy.{Holds, IsDue, OutWritten, PrefixWritten, CopyExpands, CopyShares, most_bytes}
+use Rattle.brep_run.specs.Copy.{Holds, HoldsFault, IsDue, OutWritten, PrefixWritten, CopyExpands, CopyShares, most_bytes}
 use Rattle.brep_run.specs.Rewrite.{IsRewritten, RewriteExpands, RewriteShares, IsRewriteStopped, IsRewriteUnbuilt, IsRefusedLine, IsRewriteLimit, HoldsFile, IsAccepted}
 
 -- The texts that are due stand under the names that are written, whole and ended.
@@ -40,12 +43,29 @@ IsStopped t old new (rewrites source script target history) file taken = IsRewri
 IsStopped t old new later file taken = ⊥
 IsStopped t old new wrong file taken = ⊥
 
--- The command isn't built, or what is read is of no form that is.
+-- The command isn't built, or a command of its script.
 abbrev pub IsUnbuilt : Tells → Shown → Asked → Type 0
-IsUnbuilt t old (copies source target) = IsTrue t.held → (bytes : List ℕ) × Holds old source bytes × ((f : File) → Reads bytes f → ⊥)
+IsUnbuilt t old (copies source target) = ⊥
 IsUnbuilt t old (rewrites source script target history) = IsRewriteUnbuilt t old source script
 IsUnbuilt t old later = Unit {0}
 IsUnbuilt t old wrong = ⊥
+
+-- the source holds no file, and this is its fault
+abbrev pub IsFileRefused : Tells → Shown → Asked → ReadFault → Type 0
+IsFileRefused t old (copies source target) fault = IsTrue t.held → HoldsFault old source fault
+IsFileRefused t old (rewrites source script target history) fault = IsTrue t.held → HoldsFault old source fault
+IsFileRefused t old later fault = ⊥
+IsFileRefused t old wrong fault = ⊥
+
+-- reading what the source holds ends with this fault
+abbrev pub IsFaultIn : Tells → Shown → List ℕ → ReadFault → Type 0
+IsFaultIn t old source fault = IsTrue t.held × ((bytes : List ℕ) × Holds old source bytes × (read_text file_limits bytes ≡ Err fault))
+
+abbrev pub IsFaulty : Tells → Shown → Asked → ReadFault → Type 0
+IsFaulty t old (copies source target) fault = IsFaultIn t old source fault
+IsFaulty t old (rewrites source script target history) fault = IsFaultIn t old source fault
+IsFaulty t old later fault = ⊥
+IsFaulty t old wrong fault = ⊥
 
 -- a line of a script is refused
 abbrev pub IsLineRefused : Tells → Shown → Asked → ScriptFault → Type 0

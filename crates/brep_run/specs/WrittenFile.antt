@@ -2,14 +2,14 @@
 use Rattle.std.specs.Prelude.{ℕ, List, [], ◌∷◌, ◌++◌, length, map}
 use Rattle.std.specs.List.{flat_map}
 use Rattle.location_words.specs.declared.pair.Pair.{Pair}
-use Rattle.location_table.specs.Words.{datums_of}
+use Rattle.location_table.specs.Words.{datums_of, word_of_place}
 use Rattle.location_table.specs.Written.{written_section}
 use Rattle.location_table.specs.declared.entry.LocationEntry.{LocationEntry}
 use Rattle.written_locations.specs.Further.{further_words, number_of_word}
 use Rattle.expansion_laws.specs.Trees.{Tree, Use, uses}
 use Rattle.expansion_laws.specs.Written.{flat, number_in}
-use Rattle.brep_file.specs.declared.head.Payload.{Payload}
-use Rattle.brep_file.specs.declared.head.Payload.TheVariants.{Vertex, Nothing}
+use Rattle.tshape_data.specs.Places.{moved_head, places_of}
+use Rattle.tshape_data.specs.declared.head.Head.{Head}
 use Rattle.brep_file.specs.declared.uses.FileUse.{FileUse}
 use Rattle.brep_file.specs.declared.records.Record.{Record}
 use Rattle.brep_file.specs.declared.file.File.{File}
@@ -18,14 +18,13 @@ use Rattle.brep_run.specs.Layout.{layout}
 
 -- ---- locations
 
--- the words in a record's data: a vertex without representations has none
-abbrev pub words_of_data : Payload → List (List Pair)
-words_of_data (Vertex d) = []
-words_of_data Nothing = []
+-- the words of the locations in a record's data
+abbrev pub words_of_data : File → Head → List (List Pair)
+words_of_data f h = map (word_of_place f.locations) (places_of f.version h.payload)
 
 -- the words in the record of a tree: those of its data, and then those of its uses
 abbrev pub words_of_tree : File → Tree → List (List Pair)
-words_of_tree f x = words_of_data (head_for f x).payload ++ map (λ u. u.word) (uses x)
+words_of_tree f x = words_of_data f (head_for f x) ++ map (λ u. u.word) (uses x)
 
 -- the words in the records of a root, in their order, and that of the root use
 abbrev pub words_under : File → Use → List (List Pair)
@@ -44,8 +43,12 @@ location_under f root word = number_of_word (length (datums_of f.locations)) (fu
 abbrev pub written_use : (List Pair → ℕ) → List Tree → Use → FileUse
 written_use location trees u = record { turn = u.turn; number = number_in trees u.tree; location = location u.word }
 
+-- a head with the numbers of its locations' words
+abbrev pub written_head : File → (List Pair → ℕ) → Head → Head
+written_head f location h = moved_head (λ n. location (word_of_place f.locations n)) h
+
 abbrev pub written_record : File → (List Pair → ℕ) → List Tree → Tree → Record
-written_record f location trees x = record { head = head_for f x; uses = map (written_use location trees) (uses x) }
+written_record f location trees x = record { head = written_head f location (head_for f x); uses = map (written_use location trees) (uses x) }
 
 -- One record for each distinct tree below and at the root, in the order of first completion; the tables stay as they are.
 abbrev pub written_file : File → Use → File

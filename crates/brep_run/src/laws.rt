@@ -8,6 +8,7 @@ use expansion_laws::laws::{fewest, records_are_trees, roots_are_written};
 use location_table::laws::{locations_are_exact, places_have_words, written_is_held};
 use mesh_tables::laws::meshes_are_exact;
 use surface_tables::laws::surfaces_are_exact;
+use tshape_data::laws::{head_lines_are_exact, places_move};
 
 /// The text that is written for a root spells one file, which stands for that root.
 pub fn texts_stand_for_roots()
@@ -24,4 +25,6 @@ pub fn texts_stand_for_roots()
     curves_are_exact();
     surfaces_are_exact();
     meshes_are_exact();
+    head_lines_are_exact();
+    places_move();
 }

@@ -2,6 +2,7 @@
 #![tactic(auto)]
 
 mod copy;
+mod input;
 pub mod laws;
 mod outcome;
 mod removal;

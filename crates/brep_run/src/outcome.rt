@@ -1,7 +1,9 @@
 //! What a run answers, with its exit status and its message.
-ghost use Rattle.std.specs.Prelude.{◌≡◌, IfOk};
+ghost use Rattle.std.specs.Prelude.{◌≡◌, IfOk, string_bytes};
+ghost use Rattle.brep_run.specs.Messages as messages;
 ghost use Rattle.brep_run.specs.Messages.{status_of, message_of};
 
+use brep_tokens::{ReadCode, ReadFault};
 use std::alloc::{AllocError, Global};
 use std::marker::Model;
 
@@ -31,7 +33,7 @@ pub struct ScriptFault {
     pub second: u64,
 }
 
-/// What a run answers. The counts of a fault are those of the desk: at the last look before the calls that failed, and at
+/// What a run answers. `File` tells the first token of the file that isn't accepted. The counts of a fault of the desk are those of the desk: at the last look before the calls that failed, and at
 /// the end. In `WriteDesk`, `file` is 1 for the first output and 2 for the history, and `taken` is how many bytes of it the
 /// desk took, or the last u64 where they are more.
 #[derive(Clone, Copy, Debug, PartialEq, Eq)]
@@ -39,6 +41,7 @@ pub enum Outcome {
     Done,
     Usage,
     NotBuilt,
+    File(ReadFault),
     Script(ScriptFault),
     Limit {
         which: LimitKind,
@@ -83,6 +86,87 @@ impl Message {
     }
 }
 
+/// The word that a message prints for the code of a fault in a file.
+fn code_word(code: ReadCode) -> &'static str
+    ensures { result.now ≡ messages.code_word code }
+{
+    match code {
+        ReadCode::NoVersion => "no-version",
+        ReadCode::VersionNotRead => "version-not-read",
+        ReadCode::WordExpected => "word-expected",
+        ReadCode::NumberExpected => "number-expected",
+        ReadCode::DecimalExpected => "decimal-expected",
+        ReadCode::FlagExpected => "flag-expected",
+        ReadCode::TokenTooLong => "token-too-long",
+        ReadCode::UnknownCode => "unknown-code",
+        ReadCode::IndexOutOfRange => "index-out-of-range",
+        ReadCode::UseExpected => "use-expected",
+        ReadCode::NotAbove => "not-above",
+        ReadCode::KindOrder => "kind-order",
+        ReadCode::TooDeep => "too-deep",
+        ReadCode::TooMany => "too-many",
+        ReadCode::NestLimit => "nest-limit",
+        ReadCode::WordLimit => "word-limit",
+        ReadCode::Truncated => "truncated",
+        ReadCode::Tail => "tail",
+    }
+}
+
+/// The word that a message prints for a limit.
+fn limit_word(which: LimitKind) -> &'static str
+    ensures { result.now ≡ messages.limit_word which }
+{
+    match which {
+        LimitKind::FileBytes => "file-bytes",
+        LimitKind::ScriptBytes => "script-bytes",
+        LimitKind::ScriptLines => "script-lines",
+    }
+}
+
+/// The word that a message prints for the code of a refused line.
+fn script_word(code: ScriptCode) -> &'static str
+    ensures { result.now ≡ messages.script_word code }
+{
+    match code {
+        ScriptCode::Syntax => "syntax",
+        ScriptCode::NoSuchShape => "no-such-shape",
+        ScriptCode::NoSuchLocation => "no-such-location",
+    }
+}
+
+fn limit_text(alloc: Global, which: LimitKind, count: u128) -> Result<String, AllocError>
+    ensures { IfOk result (λ s. string_bytes s ≡ message_of (Outcome.Limit which count)) }
+{
+    let word = limit_word(which);
+    format!(in alloc; "limit {word} {count}")
+}
+
+fn file_text(alloc: Global, fault: ReadFault) -> Result<String, AllocError>
+    ensures { IfOk result (λ s. string_bytes s ≡ message_of (Outcome.File fault)) }
+{
+    let ReadFault {
+        code,
+        offset,
+        value,
+        limit,
+    } = fault;
+    let word = code_word(code);
+    format!(in alloc; "file {word} at {offset} value {value} limit {limit}")
+}
+
+fn script_fault_text(alloc: Global, fault: ScriptFault) -> Result<String, AllocError>
+    ensures { IfOk result (λ s. string_bytes s ≡ message_of (Outcome.Script fault)) }
+{
+    let ScriptFault {
+        line,
+        code,
+        first,
+        second,
+    } = fault;
+    let word = script_word(code);
+    format!(in alloc; "script line {line} {word} {first} {second}")
+}
+
 impl Outcome {
     /// The exit status of the program.
     pub fn status(&self) -> u8
@@ -91,6 +175,7 @@ impl Outcome {
         match self {
             Outcome::Done => 0,
             Outcome::Usage => 2,
+            Outcome::File(_) => 3,
             Outcome::Script(_) => 4,
             Outcome::Limit { .. } => 6,
             Outcome::ReadDesk { .. } => 7,
@@ -100,82 +185,34 @@ impl Outcome {
         }
     }
 
-    /// What the program prints on standard error; empty for `Done`.
-    pub fn message(&self, alloc: Global) -> Result<Message, AllocError>
-        ensures { IfOk result (λ m. m ≡ message_of self.now) }
+    fn text(&self, alloc: Global) -> Result<String, AllocError>
+        ensures { IfOk result (λ s. string_bytes s ≡ message_of self.now) }
     {
         match self {
-            Outcome::Done => Ok(Message {
-                text: String::new(alloc),
-            }),
-            Outcome::Usage => Ok(Message {
-                text: String::from_str(alloc, USAGE)?,
-            }),
-            Outcome::Limit {
-                which: LimitKind::FileBytes,
-                count,
-            } => Ok(Message {
-                text: format!(in alloc; "limit file-bytes {count}")?,
-            }),
-            Outcome::Limit {
-                which: LimitKind::ScriptBytes,
-                count,
-            } => Ok(Message {
-                text: format!(in alloc; "limit script-bytes {count}")?,
-            }),
-            Outcome::Limit {
-                which: LimitKind::ScriptLines,
-                count,
-            } => Ok(Message {
-                text: format!(in alloc; "limit script-lines {count}")?,
-            }),
-            Outcome::Script(
-                ScriptFault {
-                    line,
-                    code: ScriptCode::Syntax,
-                    first,
-                    second,
-                },
-            ) => Ok(Message {
-                text: format!(in alloc; "script line {line} syntax {first} {second}")?,
-            }),
-            Outcome::Script(
-                ScriptFault {
-                    line,
-                    code: ScriptCode::NoSuchShape,
-                    first,
-                    second,
-                },
-            ) => Ok(Message {
-                text: format!(in alloc; "script line {line} no-such-shape {first} {second}")?,
-            }),
-            Outcome::Script(
-                ScriptFault {
-                    line,
-                    code: ScriptCode::NoSuchLocation,
-                    first,
-                    second,
-                },
-            ) => Ok(Message {
-                text: format!(in alloc; "script line {line} no-such-location {first} {second}")?,
-            }),
-            Outcome::ReadDesk { before, after } => Ok(Message {
-                text: format!(in alloc; "read fault {before} {after}")?,
-            }),
+            Outcome::Done => Ok(String::new(alloc)),
+            Outcome::Usage => String::from_str(alloc, USAGE),
+            Outcome::File(fault) => file_text(alloc, *fault),
+            Outcome::Script(fault) => script_fault_text(alloc, *fault),
+            Outcome::Limit { which, count } => limit_text(alloc, *which, *count),
+            Outcome::ReadDesk { before, after } => {
+                format!(in alloc; "read fault {before} {after}")
+            }
             Outcome::WriteDesk {
                 before,
                 after,
                 file,
                 taken,
-            } => Ok(Message {
-                text: format!(in alloc; "write fault {before} {after} file {file} taken {taken}")?,
-            }),
-            Outcome::NoMemory => Ok(Message {
-                text: String::from_str(alloc, "no memory")?,
-            }),
-            Outcome::NotBuilt => Ok(Message {
-                text: String::from_str(alloc, "not built")?,
-            }),
+            } => format!(in alloc; "write fault {before} {after} file {file} taken {taken}"),
+            Outcome::NoMemory => String::from_str(alloc, "no memory"),
+            Outcome::NotBuilt => String::from_str(alloc, "not built"),
         }
+    }
+
+    /// What the program prints on standard error; empty for `Done`.
+    pub fn message(&self, alloc: Global) -> Result<Message, AllocError>
+        ensures { IfOk result (λ m. m ≡ message_of self.now) }
+    {
+        let text = self.text(alloc)?;
+        Ok(Message { text })
     }
 }

@@ -5,30 +5,21 @@ ghost use Rattle.brep_desk.specs.Whole.{NothingWritten};
 ghost use Rattle.expansion_laws.specs.Expansion.{IsNumberOf};
 ghost use Rattle.expansion_laws.specs.Trees.{Use};
 ghost use Rattle.history_text.specs.HistoryText.{text_of};
-ghost use Rattle.brep_run.specs.Copy.{Counts, OutWritten};
-ghost use Rattle.brep_run.specs.Outcomes.{OnDone, OnUsage, OnNotBuilt, IfLimit, IfReadDesk, IfScript, IfWriteDesk, UnlessWriting};
+ghost use Rattle.brep_run.specs.Copy.{Counts, HoldsFault, OutWritten};
+ghost use Rattle.brep_run.specs.Outcomes.{OnDone, OnUsage, OnNotBuilt, IfFile, IfLimit, IfReadDesk, IfScript, IfWriteDesk, UnlessWriting};
 ghost use Rattle.brep_run.specs.Rewrite.{AreTextsOf, BothWritten, IsCountedPrefix, IsOneStopped, IsRefusedLine, IsRewriteLimit, IsRewriteStopped, IsRewriteUnbuilt, IsRewritten};
 ghost use Rattle.brep_file.specs.Sound.{IsSound};
 
-use crate::copy::{FILE_BYTES, write_out};
+use crate::copy::write_out;
+use crate::input::{read_input, read_script, removed_from};
 use crate::laws::texts_stand_for_roots;
-use crate::outcome::{LimitKind, Outcome};
+use crate::outcome::Outcome;
 use crate::removal::without;
-use crate::script::{ScriptStop, removed_numbers};
-use brep_desk::{Desk, ReadAll, read_all};
-use brep_file::laws::reading_is_exact;
-use brep_file::{File, read_file};
-use brep_tokens::ReadStop;
+use brep_desk::Desk;
+use brep_file::File;
 use expansion_laws::laws::roots_are_written;
 use history_text::{HistoryFile, NumberPairs, emit};
-use script_text::line_count;
 use std::alloc::{AllocError, Global};
-
-/// The greatest number of bytes of a script.
-const SCRIPT_BYTES: u64 = 4_194_304;
-
-/// The greatest number of lines of a script.
-const SCRIPT_LINES: u64 = 65_536;
 
 /// What is written: the text of the file, and its history.
 #[derive(Drop)]
@@ -140,68 +131,26 @@ pub(crate) fn rewrite<D: Desk>(
     ensures write_counts { IfWriteDesk result (λ b a file taken. Counts (D.faults desk.old) (D.faults desk.new) b a) }
     ensures read_counts { IfReadDesk result (λ b a. Counts (D.faults desk.old) (D.faults desk.new) b a) }
     ensures limit { IfLimit result (λ which count. IsRewriteLimit D.tells (D.shows desk.old) source.now script.now which count) }
+    ensures file { IfFile result (λ fault. IsTrue D.tells.held → HoldsFault (D.shows desk.old) source.now fault) }
     ensures not_built { OnNotBuilt result (IsRewriteUnbuilt D.tells (D.shows desk.old) source.now script.now) }
     ensures script { IfScript result (λ fault. IsRefusedLine D.tells (D.shows desk.old) source.now script.now fault) }
     ensures usage { OnUsage result ⊥ }
     ensures quiet { UnlessWriting result (NothingWritten D.tells (D.shows desk.old) (D.shows desk.new)) }
     ensures strays { IsHeldIfTold D.tells (D.shows desk.old) source.now → IsHeldIfTold D.tells (D.shows desk.old) script.now → KeepsStrays D.tells (D.shows desk.old) (D.shows desk.new) }
 {
-    reading_is_exact();
-    let before = desk.faults();
-    let bytes = match read_all(alloc, desk, source, FILE_BYTES) {
-        Ok(bytes) => bytes,
-        Err(ReadAll::Failed) => {
-            return Outcome::ReadDesk {
-                before,
-                after: desk.faults(),
-            };
-        }
-        Err(ReadAll::TooLong) => {
-            return Outcome::Limit {
-                which: LimitKind::FileBytes,
-                count: FILE_BYTES as u128 + 1,
-            };
-        }
-        Err(ReadAll::NoMemory) => return Outcome::NoMemory,
+    let input = match read_input(alloc, desk, source) {
+        Ok(input) => input,
+        Err(stop) => return stop,
     };
-    let room = bytes.len();
-    let file = match read_file(alloc, bytes) {
-        Ok(file) => file,
-        Err(ReadStop::Fault(_)) => return Outcome::NotBuilt,
-        Err(ReadStop::NoMemory) => return Outcome::NoMemory,
-    };
-    let before = desk.faults();
-    let lines = match read_all(alloc, desk, script, SCRIPT_BYTES) {
+    let lines = match read_script(alloc, desk, script) {
         Ok(lines) => lines,
-        Err(ReadAll::Failed) => {
-            return Outcome::ReadDesk {
-                before,
-                after: desk.faults(),
-            };
-        }
-        Err(ReadAll::TooLong) => {
-            return Outcome::Limit {
-                which: LimitKind::ScriptBytes,
-                count: SCRIPT_BYTES as u128 + 1,
-            };
-        }
-        Err(ReadAll::NoMemory) => return Outcome::NoMemory,
+        Err(stop) => return stop,
     };
-    if line_count(&lines) > SCRIPT_LINES {
-        return Outcome::Limit {
-            which: LimitKind::ScriptLines,
-            count: SCRIPT_LINES as u128 + 1,
-        };
-    }
-    let shapes = file.records.len();
-    let locations = file.locations.len();
-    let numbers = match removed_numbers(alloc, &lines, shapes as u32, locations) {
+    let numbers = match removed_from(alloc, &lines, &input.file) {
         Ok(numbers) => numbers,
-        Err(ScriptStop::Refused(fault)) => return Outcome::Script(fault),
-        Err(ScriptStop::NotBuilt) => return Outcome::NotBuilt,
-        Err(ScriptStop::NoMemory) => return Outcome::NoMemory,
+        Err(stop) => return stop,
     };
-    match rewriting_of(alloc, file, &numbers, room) {
+    match rewriting_of(alloc, input.file, &numbers, input.size) {
         Ok(made) => write_both(desk, target, &made.text, history, &made.history),
         Err(_) => Outcome::NoMemory,
     }

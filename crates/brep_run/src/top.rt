@@ -1,12 +1,13 @@
 //! The top call: all that the program does.
-ghost use Rattle.std.specs.Prelude.{◌≡◌, ◌⊎◌, ℕ, List};
+ghost use Rattle.std.specs.Prelude.{◌≡◌, ◌⊎◌};
 ghost use Rattle.brep_desk.specs.Strays.{KeepsStrays};
 ghost use Rattle.brep_desk.specs.Whole.{NothingWritten};
 ghost use Rattle.brep_desk.specs.Causes.{Rose};
+ghost use Rattle.brep_tokens.specs.declared.fault.ReadFault.{ReadFault};
 ghost use Rattle.brep_run.specs.Words.{Asked, wrong, later, asked_of};
-ghost use Rattle.brep_run.specs.Outcomes.{OnDone, OnUsage, OnNotBuilt, IfLimit, IfScript, IfReadDesk, IfWriteDesk, UnlessWriting, IsDoneOrNoMemory, IsReadDeskOrNoMemory};
+ghost use Rattle.brep_run.specs.Outcomes.{OnDone, OnUsage, OnNotBuilt, IfFile, IfLimit, IfScript, IfReadDesk, IfWriteDesk, UnlessWriting, IsDoneOrNoMemory, IsReadDeskOrNoMemory};
 ghost use Rattle.brep_run.specs.Copy.{Counts};
-ghost use Rattle.brep_run.specs.Runs.{IsFinished, Expands, Shares, IsStopped, IsUnbuilt, IsLineRefused, HasInput, HoldsInput, IsTooLong, IsReady, IsMissing};
+ghost use Rattle.brep_run.specs.Runs.{IsFinished, Expands, Shares, IsStopped, IsUnbuilt, IsFileRefused, IsFaulty, IsLineRefused, HasInput, HoldsInput, IsTooLong, IsReady, IsMissing};
 
 use crate::copy::copy;
 use crate::laws::texts_stand_for_roots;
@@ -22,6 +23,8 @@ use std::sync::ledger::Ledger;
 /// Does all that the program does, for the words after its name: `copy IN OUT` reads the file IN and writes it to OUT by
 /// the written layout; `rewrite IN SCRIPT OUT HIST` reads the file IN, removes the shapes that SCRIPT names, and writes
 /// what remains to OUT and the history of the removal to HIST. Names are names of the desk; `-` may be read and written.
+/// The outcomes have these statuses: `Done` 0, `Usage` 2, `File` 3, `Script` 4, `Limit` 6, `ReadDesk` 7, `WriteDesk` 8,
+/// `NoMemory` 9, `NotBuilt` 10.
 pub fn run<D: Desk, L: Ledger>(
     alloc: Global,
     words: &CommandWords,
@@ -39,14 +42,17 @@ pub fn run<D: Desk, L: Ledger>(
     ensures usage_due { asked_of words.now ≡ wrong → result ≡ Outcome.Usage }
     ensures not_built { OnNotBuilt result (IsUnbuilt D.tells (D.shows desk.old) (asked_of words.now)) }
     ensures not_built_due { asked_of words.now ≡ later → result ≡ Outcome.NotBuilt }
+    ensures file { IfFile result (λ fault. IsFileRefused D.tells (D.shows desk.old) (asked_of words.now) fault) }
     ensures script { IfScript result (λ fault. IsLineRefused D.tells (D.shows desk.old) (asked_of words.now) fault) }
     ensures limit { IfLimit result (λ which count. IsTooLong D.tells (D.shows desk.old) (asked_of words.now) which count) }
     ensures read { IfReadDesk result (λ b a. Counts (D.faults desk.old) (D.faults desk.new) b a × HasInput (asked_of words.now)) }
     ensures write { IfWriteDesk result (λ b a file taken. Counts (D.faults desk.old) (D.faults desk.new) b a) }
     ensures stopped { IfWriteDesk result (λ b a file taken. IsStopped D.tells (D.shows desk.old) (D.shows desk.new) (asked_of words.now) file taken) }
 
-    // A file that is read is copied, unless a fault is counted or memory runs out; one that isn't held is a fault.
+    // A file that is read is copied, unless a fault of the desk is counted or memory runs out; of one that isn't read the
+    // first fault is told; one that isn't held is a fault of the desk.
     ensures complete { IsReady D.tells (D.shows desk.old) (asked_of words.now) → (Rose (D.faults desk.old) (D.faults desk.new) → ⊥) → IsDoneOrNoMemory result }
+    ensures file_due { (fault : ReadFault) → IsFaulty D.tells (D.shows desk.old) (asked_of words.now) fault → (Rose (D.faults desk.old) (D.faults desk.new) → ⊥) → (result ≡ Outcome.File fault) ⊎ (result ≡ Outcome.NoMemory) }
     ensures missing { IsMissing D.tells (D.shows desk.old) (asked_of words.now) → IsReadDeskOrNoMemory result }
 
     // After each answer but Done and WriteDesk nothing is written, and words that ask for no file touch nothing.

@@ -2,14 +2,15 @@
 ghost use Rattle.brep_file.specs.declared.file.File.{File};
 ghost use Rattle.brep_file.specs.PlainRecords.{expansion_of};
 ghost use Rattle.brep_file.specs.Sound.{IsSound};
-ghost use Rattle.brep_run.specs.Completion.{ArePlaced, AreLocated, Completes, NumbersTell, lines_of_number, location_number, locations_of, locations_used};
+ghost use Rattle.brep_run.specs.Completion.{ArePlaced, AreLocated, Completes, NumbersTell, lines_of_number, locations_of, locations_used};
 ghost use Rattle.brep_run.specs.Layout.{location_lines, shape_lines, table_lines};
 ghost use Rattle.brep_run.specs.Remaining.{made_root};
 ghost use Rattle.brep_run.specs.WrittenFile.{text_of, written_file};
+ghost use Rattle.brep_tokens.specs.Tokens.{version_line};
 ghost use Rattle.brep_tokens.specs.Written.{lines_text};
 ghost use Rattle.std.specs.List.{flat_map};
-ghost use Rattle.std.specs.Prelude.{◌≡◌, ◌++◌, IfOk, OnOk, [], length};
-ghost use Rattle.written_locations.specs.Met.{IsNumbering};
+ghost use Rattle.std.specs.Prelude.{◌≡◌, ◌⊎◌, ◌∷◌, ◌++◌, IfOk, OnOk, [], length};
+ghost use Rattle.written_locations.specs.Met.{IsNumbering, location_number};
 
 mod lines;
 mod locations;
@@ -23,10 +24,20 @@ use locations::{locations_in, push_locations};
 pub(crate) use order::{Order, order_of, record_at};
 use std::alloc::{AllocError, Global};
 use tables::push_tables;
+use tshape_data::laws::places_move;
 use written_locations::WrittenLocations;
 
-/// The version line.
-const VERSION_LINE: &[u8] = b"CASCADE Topology V1, (c) Matra-Datavision\n";
+/// The version line of version 1, and of version 2.
+fn version_bytes(version: u8) -> &'static [u8]
+    requires { (version ≡ 1) ⊎ (version ≡ 2) }
+    ensures { result.now ≡ version_line version ++ 10 ∷ [] }
+{
+    if version == 2 {
+        b"CASCADE Topology V2, (c) Matra-Datavision\n"
+    } else {
+        b"CASCADE Topology V1, (c) Matra-Datavision\n"
+    }
+}
 
 /// The lines of a compound without uses that is made as the root, and of its use.
 const MADE_COMPOUND: &[u8] = b"TShapes 1\nCo\n\n1101000\n*\n+1 0\n";
@@ -41,10 +52,10 @@ fn begun_text(
     requires sound { IsSound file.now }
     requires numbering { IsNumbering locations.now }
     requires section { locations.now.section.now ≡ file.now.locations }
-    ensures { IfOk result (λ text. text.items ≡ (VERSION_LINE.now ++ lines_text (location_lines (locations_of locations.now))) ++ lines_text (table_lines file.now)) }
+    ensures { IfOk result (λ text. text.items ≡ ((version_line file.now.version ++ 10 ∷ []) ++ lines_text (location_lines (locations_of locations.now))) ++ lines_text (table_lines file.now)) }
 {
     let mut text = Vec::with_capacity(alloc, room)?;
-    text.extend_from_slice(VERSION_LINE)?;
+    text.extend_from_slice(version_bytes(file.version))?;
     push_locations(&mut text, locations)?;
     push_tables(&mut text, file)?;
     Ok(text)
@@ -63,8 +74,15 @@ fn push_records(
     ensures { OnOk result (text.new.items ≡ text.old.items
         ++ flat_map (lines_of_number file.now order.now.numbers.items order.now.places.items (location_number locations.now)) order.now.numbers.items) }
 {
+    places_move();
     for number in order.numbers() {
-        push_record(text, record_at(file, *number as usize), order, locations)?;
+        push_record(
+            text,
+            record_at(file, *number as usize),
+            file.version,
+            order,
+            locations,
+        )?;
     }
     Ok(())
 }

@@ -20,6 +20,8 @@ use itoa::Buffer;
 use location_table::{LocationEntry, Locations};
 use location_words::Pair;
 use std::alloc::{AllocError, Global};
+use tshape_data::laws::places_move;
+use written_heads::meet_head;
 use written_locations::WrittenLocations;
 
 /// The locations of uses are met.
@@ -46,8 +48,11 @@ fn meet_records(
     requires section { locations.old.section.now ≡ file.now.locations }
     ensures { OnOk result (Meets (flat_map (locations_of_number file.now) order.now.numbers.items) locations.old locations.new) }
 {
+    places_move();
     for number in order.numbers() {
-        meet_uses(locations, record_at(file, *number as usize).uses.as_slice())?;
+        let record = record_at(file, *number as usize);
+        meet_head(locations, &record.head)?;
+        meet_uses(locations, record.uses.as_slice())?;
     }
     Ok(())
 }

@@ -1,4 +1,4 @@
-use Rattle.std.proofs.Common.{length, List, Bool, subst, ap, sym, ◌∙◌}
+use Rattle.std.proofs.Common.{length, List, Bool, subst, ap, ◌∙◌}
 use Rattle.std.specs.Prelude.{map}
 use Rattle.brep_file.specs.PlainRecords.{plain_records, plain_root}
 use Rattle.brep_run.specs.Completion.{ArePlaced}

@@ -1,4 +1,4 @@
-use Rattle.std.proofs.Common.{length, List, ℕ, Bool, subst, ap, sym, ◌∙◌, ◌≡◌, true, false}
+use Rattle.std.proofs.Common.{List, Bool, subst, ap, sym, ◌∙◌, ◌≡◌, true, false}
 use Rattle.expansion_laws.specs.Trees.{Use}
 use Rattle.brep_run.specs.declared.removal.Removal.{Removal}
 use Rattle.brep_file.specs.PlainRecords.{plain_records, plain_root}

@@ -8,7 +8,8 @@ use Rattle.brep_tokens.specs.Written.{line_text}
 use Rattle.brep_file.specs.declared.uses.FileUse.{FileUse}
 use Rattle.brep_file.specs.Spelling.{spell_use}
 use Rattle.brep_run.specs.Layout.{heading}
-use Rattle.brep_run.specs.Completion.{lines_of_number, location_number, locations_of_number, renumbered_use}
+use Rattle.written_locations.specs.Met.{location_number}
+use Rattle.brep_run.specs.Completion.{lines_of_number, locations_of_number, renumbered_use}
 use Rattle.brep_run.proofs.WrittenTexts.{shapes_are}
 use Rattle.brep_run.proofs.writer.push_shapes.Goals as goal
 

@@ -1,4 +1,4 @@
-use Rattle.std.proofs.Common.{◌≡◌, ◌∙◌, sym, ap}
+use Rattle.std.proofs.Common.{◌∙◌, sym}
 use Rattle.brep_run.specs.Remaining.{is_modified}
 use Rattle.brep_run.proofs.Passing.{pairs-yes, pairs-no}
 use Rattle.brep_run.proofs.removal.told.modified_pairs.Goals as goal

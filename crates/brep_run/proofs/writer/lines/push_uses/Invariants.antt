@@ -1,6 +1,7 @@
 use Rattle.std.proofs.Common.{◌≡◌, ◌++◌, take}
 use Rattle.std.specs.List.{flat_map}
-use Rattle.brep_run.specs.Completion.{location_number, renumbered_use}
+use Rattle.written_locations.specs.Met.{location_number}
+use Rattle.brep_run.specs.Completion.{renumbered_use}
 use Rattle.brep_run.proofs.LineTexts.{spaced_use}
 use Rattle.brep_run.proofs.writer.lines.push_uses.Given as goal
 

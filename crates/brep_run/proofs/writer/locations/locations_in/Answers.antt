@@ -1,5 +1,5 @@
-use Rattle.std.proofs.Common.{◌≡◌, ◌∙◌, ◌∷◌, [], ap, sym}
-use Rattle.std.specs.Prelude.{ℕ, List, fold, map}
+use Rattle.std.proofs.Common.{◌∙◌, ◌∷◌, []}
+use Rattle.std.specs.Prelude.{fold, map}
 use Rattle.std.specs.List.{flat_map}
 use Rattle.location_table.specs.Words.{word_of_place}
 use Rattle.written_locations.specs.Further.{with_word}

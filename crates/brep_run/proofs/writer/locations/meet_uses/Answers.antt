@@ -1,5 +1,3 @@
-use Rattle.std.proofs.Common.{◌≡◌, subst}
-use Rattle.orientation.specs.declared.turn.Turn.TheVariants.{Forward}
 use Rattle.brep_run.proofs.Visits.{past_uses}
 use Rattle.brep_run.proofs.LocationLoops.{met-use}
 use Rattle.brep_run.proofs.writer.locations.meet_uses.Goals as goal

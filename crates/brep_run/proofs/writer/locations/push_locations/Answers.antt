@@ -1,5 +1,5 @@
 use Rattle.std.proofs.Common.{◌∙◌, ap, arith}
-use Rattle.std.specs.Prelude.{length, List}
+use Rattle.std.specs.Prelude.{length}
 use Rattle.location_table.specs.Words.{datums_of}
 use Rattle.brep_run.proofs.LocationLoops.{few-written}
 use Rattle.brep_run.proofs.writer.locations.push_locations.Goals as goal

@@ -1,8 +1,7 @@
-use Rattle.std.proofs.Common.{◌≡◌, ◌∙◌, ◌++◌, sym, ap}
-use Rattle.std.specs.Prelude.{List, Some}
+use Rattle.std.proofs.Common.{◌∙◌, ◌++◌, sym, ap}
+use Rattle.std.specs.Prelude.{Some}
 use Rattle.std.proofs.lemmas.List.{append_assoc}
 use Rattle.brep_tokens.specs.Written.{line_text}
-use Rattle.location_words.specs.declared.pair.Pair.{Pair}
 use Rattle.location_table.specs.Locations.{spell_location}
 use Rattle.location_table.specs.Written.{product_of}
 use Rattle.written_locations.specs.Met.{further_of}

@@ -1,4 +1,4 @@
-use Rattle.std.proofs.Common.{◌≡◌, ◌∙◌, ◌++◌, sym, ap}
+use Rattle.std.proofs.Common.{◌∙◌, ◌++◌, ap}
 use Rattle.std.specs.Prelude.{codes}
 use Rattle.curve_tables.specs.Shapes.{CanSpell2, CanSpell3}
 use Rattle.curve_tables.specs.Sound.{IsSound2, IsSound3}
