@@ -1,10 +1,11 @@
 #!/usr/bin/env bash
-# Times the copy of a large file beside plain tools, in one run: a million vertices in one compound, about 60 MB. Then it times the copy of
-# a mesh of nine million tokens, and a rewrite that removes 10,000 shapes of a file of 200,000 records beside the copy of that file.
-# By hand, not in the gate. usage: scripts/bench.sh [VERTICES]
+# Times the copy of large files beside plain tools, in one run: a model of 56,000 cylinders, and a million vertices in one compound, about
+# 60 MB each. Then it times the copy of a mesh of nine million tokens, and a rewrite that removes 10,000 shapes of a file of 200,000 records
+# beside the copy of that file. By hand, not in the gate. usage: scripts/bench.sh [VERTICES] [CYLINDERS]
 set -euo pipefail
 here=$(cd "$(dirname "$0")/.." && pwd)
 vertices=${1:-1000000}
+cylinders=${2:-56000}
 work=$(mktemp -d)
 trap 'rm -rf "$work"' EXIT
 
@@ -17,6 +18,37 @@ vertices_in_one_compound() {
         for (i = 0; i < n; i++) printf "Ve\n1e-07\n%d.5125 %d.2575 -%d.125\n0 0\n\n0101101\n*\n", i % 1000, i % 977, i % 991
         print "Co\n\n1100000"
         for (i = 0; i < n; i++) printf "+%d 0 ", n + 1 - i
+        print "*\n+1 0"
+    }'
+}
+
+# Solids with their own curves and surfaces, in one compound: each has two vertices, three edges, three wires, three faces and a shell.
+cylinders_in_one_compound() {
+    awk -v n="$1" 'BEGIN {
+        records = 13 * n + 1; turn = "6.2831853071795862"
+        print "CASCADE Topology V1, (c) Matra-Datavision\nLocations 0\nCurve2ds " 6 * n
+        for (i = 0; i < n; i++) printf "1 0 10 1 0\n2 0 0 1 0 -0 1 %d.125\n1 %s 0 0 1\n1 0 0 0 1\n1 0 0 1 0\n2 0 0 1 0 -0 1 %d.125\n", i % 50, turn, i % 50
+        print "Curves " 3 * n
+        for (i = 0; i < n; i++) printf "2 %d.5 0 10 0 0 1 1 0 -0 -0 1 0 5.125\n1 %d.5 5 0 0 0 1\n2 %d.5 0 0 0 0 1 1 0 -0 -0 1 0 5.125\n", i, i, i
+        print "Polygon3D 0\nPolygonOnTriangulations 0\nSurfaces " 3 * n
+        for (i = 0; i < n; i++) printf "2 %d.5 0 0 0 0 1 1 0 -0 -0 1 0 5.125\n1 %d.5 0 10 0 0 1 1 0 -0 -0 1 0\n1 %d.5 0 0 0 0 1 1 0 -0 -0 1 0\n", i, i, i
+        print "Triangulations 0\nTShapes " records
+        edge = "\n1e-07 1 1 0\n"; rest = "\n0\n\n0101000\n"
+        for (i = 0; i < n; i++) {
+            top = records - 13 * i; c = 6 * i; k = 3 * i
+            printf "Ve\n1e-07\n%d.5 5 10\n0 0\n\n0101101\n*\n", i
+            printf "Ed%s1 %d 0 0 %s\n2 %d %d 0 0 %s\n2 %d %d 0 0 %s%s+%d 0 -%d 0 *\n", edge, k + 1, turn, c + 1, k + 1, turn, c + 2, k + 2, turn, rest, top, top
+            printf "Ve\n1e-07\n%d.5 5 0\n0 0\n\n0101101\n*\n", i
+            printf "Ed%s1 %d 0 0 10\n3 %d %dCN %d 0 0 10%s+%d 0 -%d 0 *\n", edge, k + 2, c + 3, c + 4, k + 1, rest, top - 2, top
+            printf "Ed%s1 %d 0 0 %s\n2 %d %d 0 0 %s\n2 %d %d 0 0 %s%s+%d 0 -%d 0 *\n", edge, k + 3, turn, c + 5, k + 1, turn, c + 6, k + 3, turn, rest, top - 2, top - 2
+            printf "Wi\n\n0101100\n+%d 0 -%d 0 -%d 0 +%d 0 *\n", top - 1, top - 3, top - 4, top - 3
+            printf "Fa\n0 1e-07 %d 0\n\n0101000\n+%d 0 *\n", k + 1, top - 5
+            printf "Wi\n\n0101100\n+%d 0 *\nFa\n0 1e-07 %d 0\n\n0101000\n+%d 0 *\n", top - 1, k + 2, top - 7
+            printf "Wi\n\n0101100\n+%d 0 *\nFa\n0 1e-07 %d 0\n\n0101000\n+%d 0 *\n", top - 4, k + 3, top - 9
+            printf "Sh\n\n0101100\n+%d 0 +%d 0 -%d 0 *\nSo\n\n0100000\n+%d 0 *\n", top - 6, top - 8, top - 10, top - 11
+        }
+        print "Co\n\n1100000"
+        for (i = 0; i < n; i++) printf "+%d 0 ", records - 13 * i - 12
         print "*\n+1 0"
     }'
 }
@@ -45,6 +77,19 @@ printf '%-22s %12s\n' 'input bytes' "$bytes"
 printf '%-22s %12s s wall, %s s of processor\n' 'brep copy' "$copy_wall" "$copy_cpu" 'cat' "$cat_wall" "$cat_cpu" 'wc -w' "$words_wall" "$words_cpu"
 awk -v copy="$copy_wall" -v words="$words_wall" -v cat="$cat_wall" -v memory="$copy_memory" -v bytes="$bytes" 'BEGIN {
     printf "%-22s %12.2f\n%-22s %12.2f\n", "copy / wc -w", copy / (words > 0 ? words : 0.01), "copy / cat", copy / (cat > 0 ? cat : 0.01)
+    printf "%-22s %12.2f\n", "peak memory / bytes", memory * 1024 / bytes
+}'
+
+cylinders_in_one_compound "$cylinders" >"$work/model.brep"
+model_bytes=$(stat -c %s "$work/model.brep")
+read -r model_wall model_cpu model_memory <<<"$(measure "$here/build/brep" copy "$work/model.brep" "$work/out.brep")"
+cmp "$work/model.brep" "$work/out.brep"
+read -r words_wall words_cpu _ <<<"$(LC_ALL=C measure wc -w "$work/model.brep")"
+echo
+printf '%-22s %12s\n' 'model bytes' "$model_bytes"
+printf '%-22s %12s s wall, %s s of processor\n' 'brep copy of the model' "$model_wall" "$model_cpu" 'wc -w' "$words_wall" "$words_cpu"
+awk -v copy="$model_wall" -v words="$words_wall" -v memory="$model_memory" -v bytes="$model_bytes" 'BEGIN {
+    printf "%-22s %12.2f\n", "copy / wc -w", copy / (words > 0 ? words : 0.01)
     printf "%-22s %12.2f\n", "peak memory / bytes", memory * 1024 / bytes
 }'
 

@@ -1,0 +1,32 @@
+#!/usr/bin/env bash
+# Writes a filleted, meshed and placed model with Open CASCADE in both versions, copies it with ./brep, and has Open CASCADE read both
+# again. Skipped where Open CASCADE's development packages or the program aren't there.
+#
+# Debian and Ubuntu: apt-get install libocct-modeling-algorithms-dev libocct-visualization-dev g++
+set -euo pipefail
+cd "$(dirname "$0")/../.."
+
+inc=$(dpkg -L libocct-foundation-dev 2>/dev/null | grep '/Standard_Version.hxx$' || true)
+if [ -z "$inc" ] || ! command -v g++ >/dev/null; then
+    echo 'occt: Open CASCADE is not installed: skipped'
+    exit 0
+fi
+work=$(mktemp -d)
+trap 'rm -rf "$work"' EXIT
+
+g++ -O1 -std=c++17 -Wno-deprecated-declarations -I"$(dirname "$inc")" -o "$work/model" scripts/occt/model.cpp \
+    -lTKFillet -lTKMesh -lTKBool -lTKBO -lTKPrim -lTKTopAlgo -lTKGeomAlgo -lTKBRep -lTKGeomBase -lTKG3d -lTKG2d -lTKMath -lTKernel
+printf 'remove 1\n' >"$work/script"
+for version in 1 2; do
+    "$work/model" make "$work/model.brep" "$version"
+    ./brep copy "$work/model.brep" "$work/copy.brep"
+    "$work/model" same "$work/model.brep" "$work/copy.brep"
+    ./brep copy "$work/copy.brep" "$work/again.brep"
+    cmp "$work/copy.brep" "$work/again.brep"
+    ./brep rewrite "$work/model.brep" "$work/script" "$work/emptied.brep" "$work/history"
+    if "$work/model" same "$work/model.brep" "$work/emptied.brep" 2>/dev/null; then
+        echo 'occt: a shape without its root is taken for the whole' >&2
+        exit 1
+    fi
+    echo "occt: version $version: $(wc -c <"$work/model.brep") bytes, the copy holds the same shape and is its own copy"
+done
