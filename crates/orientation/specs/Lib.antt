@@ -1,3 +1,4 @@
 pub mod Turns
 pub mod Kinds
+pub mod Rules
 pub mod Laws

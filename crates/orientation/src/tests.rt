@@ -41,3 +41,19 @@ fn names_and_order_of_kinds(rt: HostRuntime) {
     assert!(rt; !below(Kind::Sh, Kind::Fa));
     assert!(rt; below(Kind::Co, Kind::Co));
 }
+
+#[test]
+fn rules_enter_higher_kinds(rt: HostRuntime) {
+    let usual = Rule::usual();
+    assert!(rt; !usual.prune);
+    assert!(rt; !usual.enters(Kind::Ve));
+    assert!(rt; usual.enters(Kind::Ed));
+    let faces = Rule {
+        stop: Kind::Fa,
+        prune: true,
+    };
+    assert!(rt; !faces.enters(Kind::Wi));
+    assert!(rt; !faces.enters(Kind::Fa));
+    assert!(rt; faces.enters(Kind::Sh));
+    assert!(rt; faces.enters(Kind::Co));
+}
