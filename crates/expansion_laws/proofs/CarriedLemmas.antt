@@ -13,8 +13,8 @@ use Rattle.location_words.proofs.WordLaws.{mul_assoc, mul-inverse, empty-mul, Is
 use Rattle.expansion_laws.specs.Trees.{Tree, Use, a_single, uses}
 use Rattle.expansion_laws.specs.Contexts.{Context, inside, carried, bare}
 use Rattle.expansion_laws.specs.Requests.{Act, remove, replace, Request, match_of}
-use Rattle.expansion_laws.specs.Steps.{Step, kind, new_use, onward}
-use Rattle.expansion_laws.specs.Rewriting.{joined, all_results, rebuilt, by_act, by_match, results_within, Rewrites, RelativeResults}
+use Rattle.expansion_laws.specs.Steps.{Step, kind, is_entered, entered, new_use, onward}
+use Rattle.expansion_laws.specs.Rewriting.{joined, all_results, rebuilt, is_pruned, remains, by_act, by_match, results_within, Rewrites, RelativeResults}
 
 -- the context moved inside a turn and a word
 abbrev pub moved : Context → Turn → List Pair → Context
@@ -64,10 +64,17 @@ all_results-carried t w f g h [] = refl
 all_results-carried t w f g h (u ∷ us) =
     (λ i. joined (h u i) (all_results-carried t w f g h us i)) ∙ joined-carried t w (g u) (all_results g us)
 
-rebuilt-carried : (t : Turn) (w : List Pair) (u : Use) (results : Option (List Use)) →
-    option_map (λ below. rebuilt (carried t w u) below ∷ []) results ≡ all_carried t w (option_map (λ below. rebuilt u below ∷ []) results)
-rebuilt-carried t w u None = refl
-rebuilt-carried t w u (Some below) = refl
+remains-carried : (s : Step) (t : Turn) (w : List Pair) (u : Use) (results : Option (List Use)) →
+    option_map (remains s (carried t w u)) results ≡ all_carried t w (option_map (remains s u) results)
+remains-carried s t w u None = refl
+remains-carried s t w u (Some below) = go (is_entered s u.tree) (is_pruned s u.tree below)
+  where
+    go : (e p : Bool) →
+        Some (if e then (if p then [] else rebuilt (carried t w u) below ∷ []) else carried t w u ∷ []) ≡
+        Some (map (carried t w) (if e then (if p then [] else rebuilt u below ∷ []) else u ∷ []))
+    go true true = refl
+    go true false = refl
+    go false p = refl
 
 module _ (s : Step) (again : Context → Use → Option (List Use)) (c : Context) (t : Turn) (w : List Pair) (is_word : IsWord c.word)
     (law : (v : Use) → again c (carried t w v) ≡ all_carried t w (again (moved c t w) v)) where
@@ -81,8 +88,8 @@ module _ (s : Step) (again : Context → Use → Option (List Use)) (c : Context
 
   by_match-carried : (u : Use) (m : Option Request) → by_match s again c (carried t w u) m ≡ all_carried t w (by_match s again (moved c t w) u m)
   by_match-carried u None =
-      ap (λ here. option_map (λ below. rebuilt (carried t w u) below ∷ []) (all_results (again here) (uses u.tree))) (inside-carried c t w u) ∙
-      rebuilt-carried t w u (all_results (again (inside (moved c t w) u)) (uses u.tree))
+      ap (λ here. option_map (remains s (carried t w u)) (all_results (again here) (entered s u.tree))) (inside-carried c t w u) ∙
+      remains-carried s t w u (all_results (again (inside (moved c t w) u)) (entered s u.tree))
   by_match-carried u (Some r) = by_act-carried u r.place r.act
 
 -- the results of a carried use are the results of the use, seen from inside, carried

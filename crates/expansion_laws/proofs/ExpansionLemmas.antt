@@ -9,13 +9,13 @@ use Rattle.expansion_laws.specs.declared.fault.ExpandFault.TheVariants.{TooBig, 
 use Rattle.expansion_laws.specs.declared.records.PlainUse.{PlainUse}
 use Rattle.expansion_laws.specs.declared.records.PlainRecord.{PlainRecord}
 use Rattle.expansion_laws.specs.declared.plain.TreeUse.{TreeUse}
-use Rattle.expansion_laws.specs.Trees.{Tree, Use, node, a_single, uses, origin, tree_of, uses_of}
+use Rattle.expansion_laws.specs.Trees.{Tree, Use, a_single, uses, tree_of, uses_of}
 use Rattle.expansion_laws.specs.Measures.{use_count, uses_count}
 use Rattle.expansion_laws.specs.Expansion.{NumberedUse, expanded, trees_of_file, tree_of_number, NamesAbove, IsNumberOf}
 use Rattle.expansion_laws.specs.Plain.{shown_use}
 use Rattle.expansion_laws.specs.PlainFile.{numbered_use, rows, IsDueExpansion}
 use Rattle.expansion_laws.proofs.Members.{Contains-at, All-member, slice_get-reverse, Some-same}
-use Rattle.expansion_laws.proofs.Subtrees.{uses_of-list_of}
+use Rattle.expansion_laws.proofs.Subtrees.{tree-parts}
 use Rattle.expansion_laws.proofs.FileTrees.{uses-of_number, origin-of_number}
 
 -- ---- how many uses
@@ -25,9 +25,6 @@ count us = uses_count (uses_of us)
 count-append : (us vs : List Use) → count (us ++ vs) ≡ count us + count vs
 count-append [] vs = omega arith
 count-append (u ∷ us) vs = let e = count-append us vs in omega (arith, e)
-
-tree-parts : (x : Tree) → tree_of (origin x) (uses x) ≡ x
-tree-parts (node k us) = ap (node k) (uses_of-list_of us)
 
 -- ---- the numbers that a record names
 named-at : (first : ℕ) (records : List (List NumberedUse)) → NamesAbove first records → (i : ℕ) (us : List NumberedUse) → slice_get records i ≡ Some us →

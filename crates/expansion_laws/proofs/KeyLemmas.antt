@@ -14,9 +14,9 @@ use Rattle.graph_walks.specs.Walks.{along, itself}
 use Rattle.expansion_laws.specs.Trees.{Tree, Use, a_single, uses}
 use Rattle.expansion_laws.specs.Contexts.{Context, inside, carried}
 use Rattle.expansion_laws.specs.Requests.{Act, remove, replace, Request, match_of, is_unconditional, requests_for, live_requests}
-use Rattle.expansion_laws.specs.Steps.{Step, kind, moving_word, new_use, onward}
-use Rattle.expansion_laws.specs.Rewriting.{joined, all_results, rebuilt, by_act, by_match, results_within, RelativeResults}
-use Rattle.expansion_laws.specs.Graph.{children, targets, edges}
+use Rattle.expansion_laws.specs.Steps.{Step, kind, entered, moving_word, new_use, onward}
+use Rattle.expansion_laws.specs.Rewriting.{joined, all_results, remains, by_act, by_match, results_within, RelativeResults}
+use Rattle.expansion_laws.specs.Graph.{trees_of, children, targets, edges}
 use Rattle.expansion_laws.specs.Keys.{ReachesPlace, ReachesTurn, Key, IsKey}
 use Rattle.expansion_laws.proofs.Members.{Contains-here, Contains-there, Contains-map, Contains-flat_map, list_any-contains}
 use Rattle.expansion_laws.proofs.MatchLemmas.{match-agree, match-live, match-none}
@@ -42,16 +42,16 @@ pub match-same : (s : Step) (x : Tree) (c d : Context) → SameFor s x c d → m
 match-same s x c d h = match-agree s.requests x c d (record { word = λ e. h.word (x, itself, e); turn = λ e. h.turn (x, itself, e) })
 
 -- with no match, an edge goes to each tree of the uses
-pub edge-use : (s : Step) (x : Tree) (c : Context) (w : Use) → match_of s.requests x c ≡ None → Contains (uses x) w → Contains (edges s x) w.tree
+pub edge-use : (s : Step) (x : Tree) (c : Context) (w : Use) → match_of s.requests x c ≡ None → Contains (entered s x) w → Contains (edges s x) w.tree
 edge-use s x c w e m =
-    Contains-append_right (flat_map (λ r. targets s x r.act) (live_requests s.requests x)) (if list_any is_unconditional (requests_for s.requests x) then [] else children x) w.tree
-    (rw (match-none s.requests x c e) (Contains-map (λ u. u.tree) w (uses x) m))
+    Contains-append_right (flat_map (λ r. targets s x r.act) (live_requests s.requests x)) (if list_any is_unconditional (requests_for s.requests x) then [] else trees_of (entered s x)) w.tree
+    (rw (match-none s.requests x c e) (Contains-map (λ u. u.tree) w (entered s x) m))
 
 tree-carried : (f : Use → Use) → ((u : Use) → (f u).tree ≡ u.tree) → (us : List Use) → map (λ u. u.tree) (map f us) ≡ map (λ u. u.tree) us
 tree-carried f h [] = refl
 tree-carried f h (u ∷ us) = λ i. h u i ∷ tree-carried f h us i
 
-onward-targets : (s : Step) (x : Tree) (t : Turn) (w : List Pair) (by : Use) → map (λ u. u.tree) (onward s x (carried t w by)) ≡ targets s x (replace by)
+pub onward-targets : (s : Step) (x : Tree) (t : Turn) (w : List Pair) (by : Use) → map (λ u. u.tree) (onward s x (carried t w by)) ≡ targets s x (replace by)
 onward-targets s x t w by = go (kind_eq (kind s x) (kind s by.tree))
   where
     new : Use
@@ -65,7 +65,7 @@ onward-targets s x t w by = go (kind_eq (kind s x) (kind s by.tree))
 pub edge-onward : (s : Step) (x : Tree) (c d : Context) (u : Use) (r : Request) (place : Option (List Pair)) (by w : Use) → match_of s.requests x c ≡ Some r → r.act ≡ replace by →
     Contains (onward s x (new_use d u place by)) w → Contains (edges s x) w.tree
 edge-onward s x c d u r place by w e f m =
-    Contains-append_left (flat_map (λ r. targets s x r.act) (live_requests s.requests x)) (if list_any is_unconditional (requests_for s.requests x) then [] else children x) w.tree
+    Contains-append_left (flat_map (λ r. targets s x r.act) (live_requests s.requests x)) (if list_any is_unconditional (requests_for s.requests x) then [] else trees_of (entered s x)) w.tree
     (Contains-flat_map (λ r. targets s x r.act) r w.tree (live_requests s.requests x) (match-live s.requests x c r e)
     (subst (λ l. Contains l w.tree) (onward-targets s x u.turn (moving_word d u place) by ∙ ap (targets s x) (sym f))
     (Contains-map (λ v. v.tree) w (onward s x (new_use d u place by)) m)))
@@ -92,8 +92,8 @@ module _ (s : Step) (again : Context → Use → Option (List Use)) (ih : (c d :
   by_match-same : (c d : Context) (u : Use) (m : Option Request) → SameFor s u.tree c d → match_of s.requests u.tree (inside d u) ≡ m →
       by_match s again c u m ≡ by_match s again d u m
   by_match-same c d u None h e =
-      ap (option_map (λ below. rebuilt u below ∷ []))
-      (all-same (again (inside c u)) (again (inside d u)) (uses u.tree) (λ w m. ih (inside c u) (inside d u) w (SameFor-along s u.tree w.tree (inside c u) (inside d u) (edge-use s u.tree (inside d u) w e m) (SameFor-inside s u.tree c d u h))))
+      ap (option_map (remains s u))
+      (all-same (again (inside c u)) (again (inside d u)) (entered s u.tree) (λ w m. ih (inside c u) (inside d u) w (SameFor-along s u.tree w.tree (inside c u) (inside d u) (edge-use s u.tree (inside d u) w e m) (SameFor-inside s u.tree c d u h))))
   by_match-same c d u (Some r) h e = act-same c d u r r.act h e refl
 
 -- the results of a use are the same in two contexts that agree on what its tree reaches

@@ -3,11 +3,11 @@ use Rattle.std.proofs.Common.{refl, ap, arith, zero-add, ◌∙◌}
 use Rattle.std.specs.Prelude.{◌≡◌, ◌+◌, ℕ, zero, suc, Option, None, Some, List, [], ◌∷◌}
 use Rattle.std.specs.Option.{option_map}
 use Rattle.location_words.specs.declared.pair.Pair.{Pair}
-use Rattle.expansion_laws.specs.Trees.{Use, uses}
+use Rattle.expansion_laws.specs.Trees.{Use}
 use Rattle.expansion_laws.specs.Contexts.{Context, inside}
 use Rattle.expansion_laws.specs.Requests.{Act, remove, replace, Request, match_of}
-use Rattle.expansion_laws.specs.Steps.{Step, new_use, onward}
-use Rattle.expansion_laws.specs.Rewriting.{joined, all_results, rebuilt, by_act, by_match, results_within, Rewrites}
+use Rattle.expansion_laws.specs.Steps.{Step, entered, new_use, onward}
+use Rattle.expansion_laws.specs.Rewriting.{joined, all_results, remains, by_act, by_match, results_within, Rewrites}
 
 -- where the first gives a value, the second gives the same
 abbrev pub IsKept : {A : Type 0} → Option A → Option A → Type 0
@@ -33,7 +33,7 @@ module _ (s : Step) (f g : Context → Use → Option (List Use)) (h : (c : Cont
   kept-act c u place (replace by) = kept-all (f c) (g c) (h c) (onward s u.tree (new_use c u place by))
 
   kept-match : (c : Context) (u : Use) (m : Option Request) → IsKept (by_match s f c u m) (by_match s g c u m)
-  kept-match c u None = kept-map (λ below. rebuilt u below ∷ []) (all_results (f (inside c u)) (uses u.tree)) (all_results (g (inside c u)) (uses u.tree)) (kept-all (f (inside c u)) (g (inside c u)) (h (inside c u)) (uses u.tree))
+  kept-match c u None = kept-map (remains s u) (all_results (f (inside c u)) (entered s u.tree)) (all_results (g (inside c u)) (entered s u.tree)) (kept-all (f (inside c u)) (g (inside c u)) (h (inside c u)) (entered s u.tree))
   kept-match c u (Some r) = kept-act c u r.place r.act
 
 one_more : (s : Step) (n : ℕ) (c : Context) (u : Use) → IsKept (results_within s n c u) (results_within s (suc n) c u)

@@ -6,6 +6,7 @@ use Rattle.std.proofs.lemmas.List.{length-append, length-map, length-reverse, ta
 use Rattle.std.proofs.lemmas.List.Elements.{Contains-append_left, Contains-append_right, Contains-append_cases, Contains-push, Contains-push_cases}
 use Rattle.std.proofs.lemmas.Option.{slice_get-get_or, slice_get-map}
 use Rattle.std.specs.Option.{option_map}
+use Rattle.graph_walks.specs.Walks.{IsDistinct}
 
 -- by the two values of a test
 abbrev pub by_test : {P : Type 0} (b : Bool) → (b ≡ true → P) → (b ≡ false → P) → P
@@ -167,8 +168,7 @@ take-map-all f xs i le = take_all i (map f xs) (let e = length-map xs f in omega
 
 -- ---- lists that have each thing once
 abbrev pub Distinct : {X : Type 0} → List X → Type 0
-Distinct [] = Unit {0}
-Distinct (x ∷ xs) = (Contains xs x → ⊥) × Distinct xs
+Distinct xs = IsDistinct xs
 
 pub Distinct-push : {X : Type 0} (xs : List X) (x : X) → Distinct xs → (Contains xs x → ⊥) → Distinct (xs ++ x ∷ [])
 Distinct-push [] x d h = (Contains-none x, tt)

@@ -1,7 +1,7 @@
 -- The parts of a derivation: what a part gives and refuses, by its own parts.
 use Rattle.std.proofs.Common.{◌≡◌, ◌<◌, ◌≤◌, ◌-◌, refl, sym, ◌∙◌, ap, subst, arith}
 use Rattle.std.proofs.lemmas.List.{append-nil, append_assoc}
-use Rattle.std.specs.Prelude.{ℕ, zero, suc, Option, None, Some, Ok, Err, List, [], ◌∷◌, ◌++◌, map}
+use Rattle.std.specs.Prelude.{ℕ, zero, suc, Bool, true, false, if◌then◌else◌, Option, None, Some, Ok, Err, List, [], ◌∷◌, ◌++◌, map}
 use Rattle.std.specs.List.{flat_map}
 use Rattle.std.specs.Option.{option_map}
 use Rattle.location_words.specs.declared.pair.Pair.{Pair}
@@ -9,13 +9,13 @@ use Rattle.location_words.specs.Pairs.{mul}
 use Rattle.location_words.specs.Faults.{fault_of}
 use Rattle.expansion_laws.specs.declared.fault.ExpandFault.{ExpandFault}
 use Rattle.expansion_laws.specs.declared.fault.ExpandFault.TheVariants.{TooBig}
-use Rattle.expansion_laws.specs.Trees.{Use, uses}
+use Rattle.expansion_laws.specs.Trees.{Use}
 use Rattle.expansion_laws.specs.Contexts.{Context, inside}
 use Rattle.expansion_laws.specs.Requests.{Request, remove, replace, match_of}
-use Rattle.expansion_laws.specs.Steps.{Step, new_use, onward}
-use Rattle.expansion_laws.specs.Rewriting.{all_results, by_match, joined, rebuilt, results_within}
+use Rattle.expansion_laws.specs.Steps.{Step, is_entered, entered, new_use, onward}
+use Rattle.expansion_laws.specs.Rewriting.{all_results, by_match, is_pruned, joined, rebuilt, remains, results_within}
 use Rattle.expansion_laws.specs.SlowRewriting.{Test, a_visit, of_word, later_words, outcome, tests_by_match, tests_within, IsDueOutcome}
-use Rattle.expansion_laws.specs.SlowParts.{IsDueWord, Pass, Fail, Part, part_of, part_of_all, part_of_match, part_of_rebuilt, part_of_act, Gives, Refuses}
+use Rattle.expansion_laws.specs.SlowParts.{IsDueWord, Pass, Fail, Part, part_of, part_of_all, part_of_match, part_of_remaining, part_of_act, Gives, Refuses}
 use Rattle.expansion_laws.proofs.LeastLemmas.{results-next, joined-some}
 use Rattle.expansion_laws.proofs.SlowLemmas.{outcome-append, outcome-refused, outcome-less, due-word, passed-word}
 
@@ -83,8 +83,8 @@ module _ (s : Step) (c here : Context) (u : Use) (at : here ≡ inside c u) wher
     tests = λ n. tests_by_match s (λ d v. tests_within s n d v) c u m;
   }
 
-  pub match-rebuilt : match_of s.requests u.tree here ≡ None → part_of_match s c u ≡ part_of_rebuilt s here u
-  match-rebuilt e = ap by_request (ap (match_of s.requests u.tree) (sym at) ∙ e) ∙ ap (λ d. part_of_rebuilt s d u) (sym at)
+  pub match-remaining : match_of s.requests u.tree here ≡ None → part_of_match s c u ≡ part_of_remaining s here u
+  match-remaining e = ap by_request (ap (match_of s.requests u.tree) (sym at) ∙ e) ∙ ap (λ d. part_of_remaining s d u) (sym at)
 
   pub match-act : (r : Request) → match_of s.requests u.tree here ≡ Some r → part_of_match s c u ≡ part_of_act s c u r.place r.act
   match-act r e = ap by_request (ap (match_of s.requests u.tree) (sym at) ∙ e)
@@ -92,17 +92,31 @@ module _ (s : Step) (c here : Context) (u : Use) (at : here ≡ inside c u) wher
 pub removed-given : (s : Step) (c : Context) (u : Use) (place : Option (List Pair)) (left : ℕ) (made : List Use) → [] ≡ made → Gives (part_of_act s c u place remove) left made left
 removed-given s c u place left made e = record { results = λ n lt. ap Some e; tested = λ n lt. refl }
 
--- ---- a use that stays
-pub rebuilt-refused : (s : Step) (here : Context) (u : Use) (us : List Use) (left : ℕ) (f : ExpandFault) → us ≡ uses u.tree →
-    Refuses (part_of_all s here us) left f → Refuses (part_of_rebuilt s here u) left f
-rebuilt-refused s here u us left f e h = let g = subst (λ l. Refuses (part_of_all s here l) left f) e h in record { due = g.due }
+-- ---- a use without a match
+module _ (s : Step) (u : Use) (below : List Use) where
+  pub remains-stopped : is_entered s u.tree ≡ false → remains s u below ≡ u ∷ []
+  remains-stopped e = ap (λ b. if b then (if is_pruned s u.tree below then [] else rebuilt u below ∷ []) else u ∷ []) e
 
-pub rebuilt-given : (s : Step) (here : Context) (u : Use) (us : List Use) (left : ℕ) (below made : List Use) (rest : ℕ) → us ≡ uses u.tree → made ≡ rebuilt u below ∷ [] →
-    Gives (part_of_all s here us) left below rest → Gives (part_of_rebuilt s here u) left made rest
-rebuilt-given s here u us left below made rest e m h =
+  remains-entered : (p : Bool) → is_entered s u.tree ≡ true → is_pruned s u.tree below ≡ p → remains s u below ≡ (if p then [] else rebuilt u below ∷ [])
+  remains-entered p e f =
+      ap (λ b. if b then (if is_pruned s u.tree below then [] else rebuilt u below ∷ []) else u ∷ []) e ∙ ap (λ b. if b then [] else rebuilt u below ∷ []) f
+
+  pub remains-pruned : is_entered s u.tree ≡ true → is_pruned s u.tree below ≡ true → remains s u below ≡ []
+  remains-pruned = remains-entered true
+
+  pub remains-rebuilt : is_entered s u.tree ≡ true → is_pruned s u.tree below ≡ false → remains s u below ≡ rebuilt u below ∷ []
+  remains-rebuilt = remains-entered false
+
+pub remaining-refused : (s : Step) (here : Context) (u : Use) (us : List Use) (left : ℕ) (f : ExpandFault) → us ≡ entered s u.tree →
+    Refuses (part_of_all s here us) left f → Refuses (part_of_remaining s here u) left f
+remaining-refused s here u us left f e h = let g = subst (λ l. Refuses (part_of_all s here l) left f) e h in record { due = g.due }
+
+pub remaining-given : (s : Step) (here : Context) (u : Use) (us : List Use) (left : ℕ) (below made : List Use) (rest : ℕ) → us ≡ entered s u.tree → made ≡ remains s u below →
+    Gives (part_of_all s here us) left below rest → Gives (part_of_remaining s here u) left made rest
+remaining-given s here u us left below made rest e m h =
     let g = subst (λ l. Gives (part_of_all s here l) left below rest) e h in
     record {
-      results = λ n lt. ap (option_map (λ below. rebuilt u below ∷ [])) (g.results n lt) ∙ ap Some (sym m);
+      results = λ n lt. ap (option_map (remains s u)) (g.results n lt) ∙ ap Some (sym m);
       tested = g.tested;
     }
 

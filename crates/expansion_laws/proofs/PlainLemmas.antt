@@ -1,11 +1,14 @@
 -- Plain trees by their fields, and the test of lists of plain uses from a place on.
-use Rattle.std.proofs.Common.{◌≡◌, ◌<◌, ◌≤◌, ◌+◌, refl, sym, ◌∙◌, ap, subst, slice_index_or, drop}
+use Rattle.std.proofs.Common.{arith, ◌≡◌, ◌<◌, ◌≤◌, ◌+◌, refl, sym, ◌∙◌, ap, subst, slice_index_or, drop}
 use Rattle.std.proofs.lemmas.List.{drop_more, drop_all}
-use Rattle.std.specs.Prelude.{ℕ, suc, Bool, true, false, ◌&&◌, List, [], ◌∷◌, map, length}
+use Rattle.std.specs.Prelude.{ℕ, suc, Bool, true, false, not, ◌==◌, ◌&&◌, List, [], ◌∷◌, map, length}
 use Rattle.expansion_laws.specs.declared.plain.Tree.{Tree as PlainTree, Tree-F, out-Tree, roll-Tree, fold_out-Tree, fold-roll-Tree}
 use Rattle.expansion_laws.specs.declared.plain.TreeUse.{TreeUse, TreeUse-F, out-TreeUse, roll-TreeUse, fold_out-TreeUse, fold-roll-TreeUse}
-use Rattle.expansion_laws.specs.Trees.{Tree, Use, a_single, tree_of, uses_of}
+use Rattle.expansion_laws.specs.Trees.{Tree, Use, a_single, tree_of, uses_of, uses}
+use Rattle.expansion_laws.specs.Steps.{Step}
+use Rattle.expansion_laws.specs.Rewriting.{has_any, is_pruned}
 use Rattle.expansion_laws.specs.Equality.{uses_eq, use_eq}
+use Rattle.expansion_laws.proofs.Subtrees.{list_of-uses_of}
 use Rattle.expansion_laws.specs.Plain.{tree_step, use_step, shown_tree, shown_use}
 
 -- a plain tree's tree by its fields, and that of what is made of fields
@@ -20,6 +23,36 @@ tree-roll x = fold-roll-Tree Tree Use tree_step use_step x
 
 pub use-roll : (u : TreeUse-F PlainTree TreeUse) → shown_use (roll-TreeUse u) ≡ a_single u.turn u.word (shown_tree u.tree.value)
 use-roll u = fold-roll-TreeUse Tree Use tree_step use_step u
+
+-- what has the origin and the uses of a tree stands for the same tree
+pub copied-whole : (x : PlainTree) (y : Tree-F PlainTree TreeUse) → y.origin ≡ (out-Tree x).origin → map shown_use y.uses.items ≡ map shown_use (out-Tree x).uses.items →
+    shown_tree (roll-Tree y) ≡ shown_tree x
+copied-whole x y o e = tree-roll y ∙ (λ i. tree_of (o i) (e i)) ∙ sym (tree-out x)
+
+-- ---- the test whether a tree goes with its uses
+and-none : (a b : Bool) → (a && (b && false)) ≡ false
+and-none true true = refl
+and-none true false = refl
+and-none false b = refl
+
+uses-out : (x : PlainTree) → uses (shown_tree x) ≡ map shown_use (out-Tree x).uses.items
+uses-out x = ap uses (tree-out x) ∙ list_of-uses_of (map shown_use (out-Tree x).uses.items)
+
+some-long : (us : List TreeUse) → (suc (length us) == 0) ≡ false
+some-long us = some (length us)
+  where
+    some : (n : ℕ) → (suc n == 0) ≡ false
+    some n = grind arith
+
+prune-by : (s : Step) (x : Tree) (us : List TreeUse) → uses x ≡ map shown_use us → (below : List TreeUse) →
+    is_pruned s x (map shown_use below) ≡ (s.rule.prune && (not (length us == 0) && (length below == 0)))
+prune-by s x us e (v ∷ below) = sym (ap (λ b. s.rule.prune && (not (length us == 0) && b)) (some-long below) ∙ and-none s.rule.prune (not (length us == 0)))
+prune-by s x [] e [] = ap (λ l. s.rule.prune && has_any l) e
+prune-by s x (u ∷ us) e [] = ap (λ l. s.rule.prune && has_any l) e ∙ ap (λ b. s.rule.prune && (not b && true)) (sym (some-long us))
+
+pub prune-is : (s : Step) (x : PlainTree) (below : List TreeUse) →
+    is_pruned s (shown_tree x) (map shown_use below) ≡ (s.rule.prune && (not (length (out-Tree x).uses.items == 0) && (length below == 0)))
+prune-is s x below = prune-by s (shown_tree x) (out-Tree x).uses.items (uses-out x) below
 
 -- ---- the test of two lists
 and-false : (p q : Bool) → false ≡ q → false ≡ (p && q)

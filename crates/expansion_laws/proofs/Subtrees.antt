@@ -2,7 +2,7 @@
 use Rattle.std.proofs.Common.{◌≡◌, ◌≤◌, refl, sym, ap, subst, arith, inl, inr}
 use Rattle.std.specs.Prelude.{◌⊎◌, List, [], ◌∷◌, Contains}
 use Rattle.std.proofs.lemmas.List.Elements.{Contains-append_left, Contains-append_right, Contains-append_cases}
-use Rattle.expansion_laws.specs.Trees.{LabelledTree, LabelledUses, LabelledUse, node, no_use, a_use, a_single, list_of, uses_of, uses}
+use Rattle.expansion_laws.specs.Trees.{LabelledTree, LabelledUses, LabelledUse, node, no_use, a_use, a_single, list_of, uses_of, label_of, uses, tree_of}
 use Rattle.expansion_laws.specs.Measures.{depth, uses_depth, subtrees, subtrees_below}
 use Rattle.expansion_laws.proofs.Members.{Contains-here, Contains-there, Contains-cases, Contains-none}
 
@@ -14,6 +14,10 @@ module _ {L : Type 0} where
   pub uses_of-list_of : (us : LabelledUses L) → uses_of (list_of us) ≡ us
   uses_of-list_of no_use = refl
   uses_of-list_of (a_use t w x others) = ap (λ l. a_use t w x l) (uses_of-list_of others)
+
+  -- a tree is made of its label and its uses
+  pub tree-parts : (x : LabelledTree L) → tree_of (label_of x) (uses x) ≡ x
+  tree-parts (node k us) = ap (node k) (uses_of-list_of us)
 
   pub subtrees-itself : (x : LabelledTree L) → Contains (subtrees x) x
   subtrees-itself (node k us) = Contains-here (node k us) (subtrees_below us)

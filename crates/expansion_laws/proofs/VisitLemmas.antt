@@ -7,11 +7,11 @@ use Rattle.orientation.proofs.TurnLaws.{composed-forward}
 use Rattle.location_words.specs.declared.pair.Pair.{Pair}
 use Rattle.location_words.specs.Pairs.{IsWord}
 use Rattle.graph_walks.specs.Walks.{IsRankBound}
-use Rattle.expansion_laws.specs.Trees.{Tree, Use, uses}
+use Rattle.expansion_laws.specs.Trees.{Tree, Use}
 use Rattle.expansion_laws.specs.Contexts.{Context, inside, carried, bare}
 use Rattle.expansion_laws.specs.Requests.{Act, remove, replace, Request, match_of}
-use Rattle.expansion_laws.specs.Steps.{Step, new_use, onward}
-use Rattle.expansion_laws.specs.Rewriting.{joined, all_results, rebuilt, by_act, by_match, results_within, Rewrites}
+use Rattle.expansion_laws.specs.Steps.{Step, entered, new_use, onward}
+use Rattle.expansion_laws.specs.Rewriting.{joined, all_results, remains, by_act, by_match, results_within, Rewrites}
 use Rattle.expansion_laws.specs.Demands.{demands_of_act, demands_by, gathered_by, demands, gathered}
 use Rattle.expansion_laws.specs.Graph.{edges}
 use Rattle.expansion_laws.proofs.Members.{Contains-here, Contains-there, Contains-none}
@@ -34,7 +34,7 @@ module _ (s : Step) (again : Context → Use → Option (List Use)) (x : Tree) (
   act-visit r place (replace by) = same-option (all_results (again here) (onward s x (new_use here (bare x) place by)))
 
   match-visit : IsWord here.word → (m : Option Request) → by_match s again here (bare x) m ≡ option_map (gathered_by s x here m) (all_results (again here) (demands_by s x here m))
-  match-visit h None = ap (λ c. option_map (λ below. rebuilt (bare x) below ∷ []) (all_results (again c) (uses x))) (inside-bare here x h)
+  match-visit h None = ap (λ c. option_map (remains s (bare x)) (all_results (again c) (entered s x))) (inside-bare here x h)
   match-visit h (Some r) = act-visit r r.place r.act
 
 -- the relative results of a visit, one level
@@ -82,7 +82,7 @@ visit-rewritten-by s x here g parts xs h e each =
     (suc all.0, visit-next s all.0 x here h ∙ ap (option_map (gathered s x here)) (ap (all_results (λ v. results_within s all.0 here v)) e ∙ all.1))
 
 -- ---- existence
-all-there : (f : Use → Option (List Use)) (us : List Use) → ((v : Use) → Contains us v → (r : List Use) × (f v ≡ Some r)) → (r : List Use) × (all_results f us ≡ Some r)
+pub all-there : (f : Use → Option (List Use)) (us : List Use) → ((v : Use) → Contains us v → (r : List Use) × (f v ≡ Some r)) → (r : List Use) × (all_results f us ≡ Some r)
 all-there f [] h = ([], refl)
 all-there f (u ∷ us) h =
     let one = h u (Contains-here u us) in
@@ -98,8 +98,8 @@ module _ (s : Step) (again : Context → Use → Option (List Use)) (c : Context
 
   match-there : (m : Option Request) → match_of s.requests u.tree (inside c u) ≡ m → (a : List Use) × (by_match s again c u m ≡ Some a)
   match-there None e =
-      let all = all-there (again (inside c u)) (uses u.tree) (λ v k. each (inside c u) v (edge-use s u.tree (inside c u) v e k)) in
-      (rebuilt u all.0 ∷ [], ap (option_map (λ below. rebuilt u below ∷ [])) all.1)
+      let all = all-there (again (inside c u)) (entered s u.tree) (λ v k. each (inside c u) v (edge-use s u.tree (inside c u) v e k)) in
+      (remains s u all.0, ap (option_map (remains s u)) all.1)
   match-there (Some r) e = act-there r r.act e refl
 
 -- where walks from a use's tree have at most n edges, n + 1 levels give its results, in any context

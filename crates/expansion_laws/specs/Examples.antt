@@ -3,6 +3,8 @@ use Rattle.std.specs.Prelude.{◌≡◌, ℕ, zero, suc, pos, negsuc, None, Some
 use Rattle.orientation.specs.declared.turn.Turn.{Turn}
 use Rattle.orientation.specs.declared.turn.Turn.TheVariants.{Forward, Reversed, Internal}
 use Rattle.orientation.specs.declared.kind.Kind.{Kind}
+use Rattle.orientation.specs.declared.rule.Rule.{Rule}
+use Rattle.orientation.specs.Rules.{usual}
 use Rattle.orientation.specs.declared.kind.Kind.TheVariants.{Ve, Ed, Wi, Fa, Sh, So, Co}
 use Rattle.location_words.specs.declared.pair.Pair.{Pair}
 use Rattle.location_words.specs.Pairs.{pair}
@@ -34,8 +36,11 @@ abbrev pub kinds_of : List Kind → ℕ → Kind
 kinds_of kinds zero = Co
 kinds_of kinds (suc k) = unwrap_or (slice_get kinds k) Co
 
+abbrev pub step_under : Rule → List Kind → List Request → Step
+step_under rule kinds requests = record { kind_of_origin = kinds_of kinds; requests = requests; rule = rule }
+
 abbrev pub step_of : List Kind → List Request → Step
-step_of kinds requests = record { kind_of_origin = kinds_of kinds; requests = requests }
+step_of = step_under usual
 
 -- a request for all occurrences of a tree
 abbrev pub always : Tree → Act → Request

@@ -1,11 +1,11 @@
 -- Rewriting by a bounded function: the results of a use, where a derivation of at most so many levels gives them.
-use Rattle.std.specs.Prelude.{◌≡◌, ℕ, zero, suc, Option, None, Some, List, [], ◌∷◌, ◌++◌}
+use Rattle.std.specs.Prelude.{◌≡◌, ◌&&◌, ℕ, zero, suc, Bool, true, false, if◌then◌else◌, Option, None, Some, List, [], ◌∷◌, ◌++◌}
 use Rattle.std.specs.Option.{option_map}
 use Rattle.location_words.specs.declared.pair.Pair.{Pair}
 use Rattle.expansion_laws.specs.Trees.{Tree, Use, a_single, origin, uses, tree_of}
 use Rattle.expansion_laws.specs.Contexts.{Context, at_root, inside, bare}
 use Rattle.expansion_laws.specs.Requests.{Request, Act, remove, replace, match_of}
-use Rattle.expansion_laws.specs.Steps.{Step, onward, new_use, root_of}
+use Rattle.expansion_laws.specs.Steps.{Step, is_entered, entered, onward, new_use, root_of}
 
 -- both lists joined, where both are there
 abbrev pub joined : Option (List Use) → Option (List Use) → Option (List Use)
@@ -22,15 +22,30 @@ all_results results (u ∷ us) = joined (results u) (all_results results us)
 abbrev pub rebuilt : Use → List Use → Use
 rebuilt u below = a_single u.turn u.word (tree_of (origin u.tree) below)
 
+-- whether a list has a thing
+abbrev pub has_any : {X : Type 0} → List X → Bool
+has_any [] = false
+has_any (x ∷ xs) = true
+
+-- whether an entered tree goes with its uses: the prune mark is on, it has a use, and nothing comes of its uses
+abbrev pub is_pruned : Step → Tree → List Use → Bool
+is_pruned s x [] = s.rule.prune && has_any (uses x)
+is_pruned s x (v ∷ vs) = false
+
+-- what remains of a use without a match: the use itself where its tree isn't entered; else the use over the results of its
+-- tree's uses, or nothing where it is pruned
+abbrev pub remains : Step → Use → List Use → List Use
+remains s u below = if is_entered s u.tree then (if is_pruned s u.tree below then [] else rebuilt u below ∷ []) else u ∷ []
+
 module _ (s : Step) (again : Context → Use → Option (List Use)) where
   -- the results after a match, by its act, where `again` gives those of further uses
   abbrev pub by_act : Context → Use → Option (List Pair) → Act → Option (List Use)
   by_act c u place remove = Some []
   by_act c u place (replace by) = all_results (again c) (onward s u.tree (new_use c u place by))
 
-  -- the results of a use by its match: with none, the use stays, and its tree's uses are rewritten in its own context
+  -- the results of a use by its match: with none, the uses that are entered are rewritten in its own context
   abbrev pub by_match : Context → Use → Option Request → Option (List Use)
-  by_match c u None = option_map (λ below. rebuilt u below ∷ []) (all_results (again (inside c u)) (uses u.tree))
+  by_match c u None = option_map (remains s u) (all_results (again (inside c u)) (entered s u.tree))
   by_match c u (Some r) = by_act c u r.place r.act
 
 -- the results of a use in a context, where a derivation of at most n levels gives them

@@ -1,5 +1,5 @@
 -- The parts of the plain slow rewriting: what each function of it gives, and what it refuses.
-use Rattle.std.specs.Prelude.{◌≡◌, ℕ, ◌<◌, Option, Some, Ok, List, [], ◌∷◌, map}
+use Rattle.std.specs.Prelude.{◌≡◌, ℕ, ◌<◌, Option, Some, Ok, List, map}
 use Rattle.std.specs.List.{flat_map}
 use Rattle.std.specs.Option.{option_map}
 use Rattle.location_words.specs.declared.pair.Pair.{Pair}
@@ -12,13 +12,13 @@ use Rattle.expansion_laws.specs.declared.moving.Seen.{Seen}
 use Rattle.expansion_laws.specs.Trees.{Use, a_single, uses}
 use Rattle.expansion_laws.specs.Contexts.{Context, inside, carried}
 use Rattle.expansion_laws.specs.Requests.{Act, match_of}
-use Rattle.expansion_laws.specs.Steps.{Step}
-use Rattle.expansion_laws.specs.Rewriting.{all_results, rebuilt, by_act, by_match, results_within}
+use Rattle.expansion_laws.specs.Steps.{Step, entered}
+use Rattle.expansion_laws.specs.Rewriting.{all_results, remains, by_act, by_match, results_within}
 use Rattle.expansion_laws.specs.Plain.{shown_tree}
 use Rattle.expansion_laws.specs.SlowRewriting.{Test, of_word, tests_by_act, tests_by_match, tests_within, outcome, slow_step, IsDueOutcome}
 
 abbrev pub step_by : Rules → Step
-step_by rules = slow_step rules.requests.now rules.kinds.now
+step_by rules = slow_step rules.requests.now rules.kinds.now rules.rule
 
 abbrev pub context : Here → Context
 context h = record { turn = h.turn; word = h.word }
@@ -67,10 +67,10 @@ module _ (s : Step) where
     tests = λ n. tests_by_match s (λ d v. tests_within s n d v) c u (match_of s.requests u.tree (inside c u));
   }
 
-  abbrev pub part_of_rebuilt : Context → Use → Part
-  part_of_rebuilt here u = record {
-    found = λ n. option_map (λ below. rebuilt u below ∷ []) (all_results (λ v. results_within s n here v) (uses u.tree));
-    tests = λ n. flat_map (λ v. tests_within s n here v) (uses u.tree);
+  abbrev pub part_of_remaining : Context → Use → Part
+  part_of_remaining here u = record {
+    found = λ n. option_map (remains s u) (all_results (λ v. results_within s n here v) (entered s u.tree));
+    tests = λ n. flat_map (λ v. tests_within s n here v) (entered s u.tree);
   }
 
   abbrev pub part_of_act : Context → Use → Option (List Pair) → Act → Part

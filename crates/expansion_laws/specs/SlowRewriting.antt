@@ -4,6 +4,7 @@ use Rattle.std.specs.List.{flat_map}
 use Rattle.orientation.specs.declared.kind.Kind.{Kind}
 use Rattle.orientation.specs.declared.kind.Kind.TheVariants.{Co}
 use Rattle.orientation.specs.Kinds.{kind_eq}
+use Rattle.orientation.specs.declared.rule.Rule.{Rule}
 use Rattle.location_words.specs.declared.pair.Pair.{Pair}
 use Rattle.location_words.specs.declared.fault.WordFault.{WordFault}
 use Rattle.location_words.specs.Faults.{fault_of}
@@ -11,10 +12,10 @@ use Rattle.expansion_laws.specs.declared.fault.ExpandFault.{ExpandFault}
 use Rattle.expansion_laws.specs.declared.fault.ExpandFault.TheVariants.{TooBig, Word, NoMemory}
 use Rattle.expansion_laws.specs.declared.plain.TreeUse.{TreeUse}
 use Rattle.expansion_laws.specs.declared.requests.SlowRequest.{SlowRequest}
-use Rattle.expansion_laws.specs.Trees.{Tree, Use, uses}
+use Rattle.expansion_laws.specs.Trees.{Tree, Use}
 use Rattle.expansion_laws.specs.Contexts.{Context, at_root, inside}
 use Rattle.expansion_laws.specs.Requests.{Act, remove, replace, Request, match_of}
-use Rattle.expansion_laws.specs.Steps.{Step, kind, new_use, onward}
+use Rattle.expansion_laws.specs.Steps.{Step, kind, entered, new_use, onward}
 use Rattle.expansion_laws.specs.Plain.{shown_tree, shown_use}
 
 -- ---- the step
@@ -31,8 +32,8 @@ abbrev pub kind_at : List Kind → ℕ → Kind
 kind_at kinds zero = Co
 kind_at kinds (suc k) = unwrap_or (slice_get kinds k) Co
 
-abbrev pub slow_step : List SlowRequest → List Kind → Step
-slow_step requests kinds = record { kind_of_origin = kind_at kinds; requests = map shown_request requests }
+abbrev pub slow_step : List SlowRequest → List Kind → Rule → Step
+slow_step requests kinds rule = record { kind_of_origin = kind_at kinds; requests = map shown_request requests; rule = rule }
 
 -- ---- the tests
 -- a test of the number of visits so far, or of a word
@@ -53,7 +54,7 @@ module _ (s : Step) (again : Context → Use → List Test) where
       map of_word (later_words s u.tree (new_use c u place by)) ++ flat_map (again c) (onward s u.tree (new_use c u place by))
 
   abbrev pub tests_by_match : Context → Use → Option Request → List Test
-  tests_by_match c u None = flat_map (again (inside c u)) (uses u.tree)
+  tests_by_match c u None = flat_map (again (inside c u)) (entered s u.tree)
   tests_by_match c u (Some r) = tests_by_act c u r.place r.act
 
 -- the tests that are made while a use is rewritten, in their order, down to so many levels of the derivation: at each visit one of the

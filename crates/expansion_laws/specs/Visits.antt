@@ -1,10 +1,11 @@
 -- The visits of a step, and the images that they give.
-use Rattle.std.specs.Prelude.{◌≡◌, ℕ, zero, suc, Some, List, [], ◌∷◌, map, Contains}
+use Rattle.std.specs.Prelude.{◌≡◌, ◌⊎◌, ℕ, zero, suc, false, None, Some, List, [], ◌∷◌, map, Contains}
 use Rattle.std.specs.List.{flat_map}
 use Rattle.expansion_laws.specs.Trees.{Tree, Use}
+use Rattle.expansion_laws.specs.Measures.{StandsBelow}
 use Rattle.expansion_laws.specs.Contexts.{Context, at_root, inside}
 use Rattle.expansion_laws.specs.Requests.{Request, replace, match_of}
-use Rattle.expansion_laws.specs.Steps.{Step}
+use Rattle.expansion_laws.specs.Steps.{Step, is_entered}
 use Rattle.expansion_laws.specs.Rewriting.{RelativeResults}
 use Rattle.expansion_laws.specs.Demands.{demands}
 
@@ -22,13 +23,21 @@ visits_within s (suc n) x here = (x, here) ∷ flat_map (λ v. visits_within s n
 abbrev pub IsVisit : Step → Use → Tree → Context → Type 0
 IsVisit s root x here = LeadsTo s root.tree (inside at_root root) x here
 
--- an image of a visited tree is the tree of one of its results
-abbrev pub IsImage : Step → Use → Tree → Tree → Type 0
-IsImage s root x y =
+-- a visit of the tree stops: no request meets it, and the tree isn't entered
+abbrev pub IsStopped : Step → Use → Tree → Type 0
+IsStopped s root x = (here : Context) × IsVisit s root x here × (match_of s.requests x here ≡ None) × (is_entered s x ≡ false)
+
+-- a visit of the tree has a result with the other tree
+abbrev pub IsResult : Step → Use → Tree → Tree → Type 0
+IsResult s root x y =
     (here : Context) × (results : List Use) × IsVisit s root x here × RelativeResults s x here results × Contains (map (λ r. r.tree) results) y
 
--- a visit of the tree meets a replace, and these are its relative results
-abbrev pub IsReplaced : Step → Use → Tree → List Use → Type 0
-IsReplaced s root x results =
-    (here : Context) × (r : Request) × (by : Use) × IsVisit s root x here × (match_of s.requests x here ≡ Some r) × (r.act ≡ replace by) ×
-    RelativeResults s x here results
+-- the images of a tree: the trees of the results of its visits, and itself where it stands properly below a tree of a visit that stops
+abbrev pub IsImage : Step → Use → Tree → Tree → Type 0
+IsImage s root x y = IsResult s root x y ⊎ ((y ≡ x) × ((above : Tree) × IsStopped s root above × StandsBelow x above))
+
+-- a visit of the tree meets a replace, and the other is the tree of one of its relative results
+abbrev pub IsReplaced : Step → Use → Tree → Tree → Type 0
+IsReplaced s root x y =
+    (here : Context) × (r : Request) × (by : Use) × (results : List Use) × IsVisit s root x here × (match_of s.requests x here ≡ Some r) × (r.act ≡ replace by) ×
+    RelativeResults s x here results × Contains (map (λ r. r.tree) results) y

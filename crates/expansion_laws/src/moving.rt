@@ -5,7 +5,7 @@ ghost use Rattle.location_words.specs.Faults.{fault_of};
 ghost use Rattle.location_words.specs.Pairs.{mul as mul_of};
 ghost use Rattle.expansion_laws.specs.Trees.{uses};
 ghost use Rattle.expansion_laws.specs.Contexts.{carried};
-ghost use Rattle.expansion_laws.specs.Steps.{kind, new_use as new_use_of, onward as onward_of};
+ghost use Rattle.expansion_laws.specs.Steps.{entered, is_entered, kind, new_use as new_use_of, onward as onward_of};
 ghost use Rattle.expansion_laws.specs.Plain.{shown_tree, shown_use};
 ghost use Rattle.expansion_laws.specs.SlowRewriting.{kind_at, later_words};
 ghost use Rattle.expansion_laws.specs.SlowParts.{context, seen_use, step_by, under, words_of, Fail, IsDueWord, Pass};
@@ -14,7 +14,7 @@ use crate::fault::ExpandFault;
 use crate::plain::{Tree, TreeUse};
 use crate::requests::SlowRequest;
 use location_words::{Word, WordFault, inverse, mul};
-use orientation::{Kind, Turn, compose};
+use orientation::{Kind, Rule, Turn, compose};
 use std::alloc::{AllocError, Global};
 
 /// What a rewriting goes by.
@@ -23,6 +23,7 @@ pub(crate) struct Rules<'a> {
     pub(crate) alloc: Global,
     pub(crate) requests: &'a [SlowRequest],
     pub(crate) kinds: &'a [Kind],
+    pub(crate) rule: Rule,
 }
 
 /// The accumulated turn and word of a parent.
@@ -54,7 +55,7 @@ pub(crate) fn tested(outer: &Word, inner: &Word) -> Result<Word, ExpandFault>
 }
 
 /// The uses of a tree.
-pub(crate) fn own_uses<'a>(alloc: Global, tree: &'a Tree) -> Result<Vec<Seen<'a>>, AllocError>
+fn own_uses<'a>(alloc: Global, tree: &'a Tree) -> Result<Vec<Seen<'a>>, AllocError>
     ensures { IfOk result (λ own. map seen_use own.items ≡ uses (shown_tree tree.now)) }
 {
     let mut own = Vec::new(alloc);
@@ -63,6 +64,24 @@ pub(crate) fn own_uses<'a>(alloc: Global, tree: &'a Tree) -> Result<Vec<Seen<'a>
         own.push(one)?;
     }
     Ok(own)
+}
+
+/// The uses of a tree that no request meets that are gone through.
+pub(crate) fn entered_uses<'a>(rules: &Rules, tree: &'a Tree) -> Result<Vec<Seen<'a>>, AllocError>
+    ensures { IfOk result (λ own. map seen_use own.items ≡ entered (step_by rules.now) (shown_tree tree.now)) }
+{
+    if enters(rules, tree) {
+        let own = own_uses(rules.alloc, tree)?;
+        return Ok(own);
+    }
+    Ok(Vec::new(rules.alloc))
+}
+
+/// Whether a tree that no request meets is gone through.
+pub(crate) fn enters(rules: &Rules, tree: &Tree) -> bool
+    ensures { result ≡ is_entered (step_by rules.now) (shown_tree tree.now) }
+{
+    rules.rule.enters(kind_of(rules.kinds, tree.origin))
 }
 
 /// A use as it stands in its tree.

@@ -57,6 +57,32 @@ fn same_use(a: &TreeUse, b: &TreeUse) -> bool
     a.turn == b.turn && a.word == b.word && same_tree(&a.tree, &b.tree)
 }
 
+/// A copy of a tree.
+#[cycle(copied)]
+pub(crate) fn copied(alloc: Global, tree: &Tree) -> Result<Tree, AllocError>
+    ensures { IfOk result (λ copy. shown_tree copy ≡ shown_tree tree.now) }
+{
+    let uses = copied_uses(alloc, &tree.uses)?;
+    Ok(Tree {
+        origin: tree.origin,
+        uses,
+    })
+}
+
+/// Copies of uses, in order.
+#[cycle(copied)]
+fn copied_uses(alloc: Global, uses: &[TreeUse]) -> Result<Vec<TreeUse>, AllocError>
+    ensures { IfOk result (λ copies. map shown_use copies.items ≡ map shown_use uses.now) }
+{
+    let mut copies = Vec::new(alloc);
+    for i in 0..uses.len() {
+        let tree = copied(alloc, &uses[i].tree)?;
+        let copy = use_of(alloc, uses[i].turn, &uses[i].word, tree)?;
+        copies.push(copy)?;
+    }
+    Ok(copies)
+}
+
 /// A use of a tree, under a copy of a word.
 pub(crate) fn use_of(
     alloc: Global,

@@ -5,37 +5,40 @@ ghost use Rattle.expansion_laws.specs.Trees.{a_single, tree_of};
 ghost use Rattle.expansion_laws.specs.Contexts.{inside as inside_of};
 ghost use Rattle.expansion_laws.specs.Requests.{replace as replacing};
 ghost use Rattle.expansion_laws.specs.Steps.{root_of};
-ghost use Rattle.expansion_laws.specs.Rewriting.{rebuilt as rebuilt_of, StepsTo};
-ghost use Rattle.expansion_laws.specs.Plain.{shown_use};
+ghost use Rattle.expansion_laws.specs.Rewriting.{is_pruned as is_pruned_by, rebuilt as rebuilt_of, remains, StepsTo};
+ghost use Rattle.expansion_laws.specs.Plain.{shown_tree, shown_use};
 ghost use Rattle.expansion_laws.specs.SlowRewriting.{slow_outcome, slow_step, IsDueOutcome};
-ghost use Rattle.expansion_laws.specs.SlowParts.{context, part_of, part_of_act, part_of_all, part_of_match, part_of_rebuilt, seen_use, step_by, Gives, Refuses};
+ghost use Rattle.expansion_laws.specs.SlowParts.{context, part_of, part_of_act, part_of_all, part_of_match, part_of_remaining, seen_use, step_by, Gives, Refuses};
 
 use crate::fault::ExpandFault;
-use crate::moving::{Here, Rules, Seen, new_use, onward, own_use, own_uses, tested};
-use crate::plain::{Tree, TreeUse, use_of};
+use crate::moving::{Here, Rules, Seen, entered_uses, enters, new_use, onward, own_use, tested};
+use crate::plain::{Tree, TreeUse, copied, use_of};
 use crate::requests::{SlowRequest, last_fitting};
 use location_words::Word;
-use orientation::{Kind, Turn, compose};
+use orientation::{Kind, Rule, Turn, compose};
 use std::alloc::{AllocError, Global};
 
 /// Rewrites the root by the rule: each occurrence meets the last request that fits it, and what comes of it is rewritten again.
 ///
-/// Origin `k` has the kind `kinds[k - 1]`, and any other origin is a compound. There are at most `budget` visits.
+/// Origin `k` has the kind `kinds[k - 1]`, and any other origin is a compound. What no request meets is gone through by `rule`. There are
+/// at most `budget` visits.
 pub fn rewrite_slow(
     alloc: Global,
     root: &TreeUse,
     requests: &[SlowRequest],
     kinds: &[Kind],
+    rule: Rule,
     budget: u64,
 ) -> Result<TreeUse, ExpandFault>
-    ensures ok { IfOk result (λ new. StepsTo (slow_step requests.now kinds.now) (shown_use root.now) (shown_use new)) }
-    ensures within { OnOk result (IsOk (slow_outcome (slow_step requests.now kinds.now) (shown_use root.now) budget)) }
-    ensures refused { IfErr result (λ fault. IsDueOutcome (slow_outcome (slow_step requests.now kinds.now) (shown_use root.now) budget) fault) }
+    ensures ok { IfOk result (λ new. StepsTo (slow_step requests.now kinds.now rule) (shown_use root.now) (shown_use new)) }
+    ensures within { OnOk result (IsOk (slow_outcome (slow_step requests.now kinds.now rule) (shown_use root.now) budget)) }
+    ensures refused { IfErr result (λ fault. IsDueOutcome (slow_outcome (slow_step requests.now kinds.now rule) (shown_use root.now) budget) fault) }
 {
     let rules = Rules {
         alloc,
         requests,
         kinds,
+        rule,
     };
     let here = Here {
         turn: Turn::Forward,
@@ -118,7 +121,7 @@ fn rewrite_matched(
     ensures refused { IfErr result (λ fault. Refuses (part_of_match (step_by rules.now) (context here.now) (seen_use one.now)) left fault) }
 {
     match last_fitting(rules.requests, one.tree, inside) {
-        None => rebuild(rules, inside, one, left),
+        None => go_through(rules, inside, one, left),
         Some(request) => match &request.target {
             None => Ok(Rewritten {
                 results: Vec::new(rules.alloc),
@@ -129,23 +132,57 @@ fn rewrite_matched(
     }
 }
 
-/// A use that stays, over the results of its tree's uses.
+/// Goes through a use that no request meets.
 #[cycle(rewrite)]
-fn rebuild(rules: &Rules, inside: &Here, one: &Seen, left: u64) -> Result<Rewritten, ExpandFault>
-    ensures ok { IfOk result (λ r. Gives (part_of_rebuilt (step_by rules.now) (context inside.now) (seen_use one.now)) left (map shown_use r.results.items) r.left) }
-    ensures refused { IfErr result (λ fault. Refuses (part_of_rebuilt (step_by rules.now) (context inside.now) (seen_use one.now)) left fault) }
+fn go_through(rules: &Rules, inside: &Here, one: &Seen, left: u64) -> Result<Rewritten, ExpandFault>
+    ensures ok { IfOk result (λ r. Gives (part_of_remaining (step_by rules.now) (context inside.now) (seen_use one.now)) left (map shown_use r.results.items) r.left) }
+    ensures refused { IfErr result (λ fault. Refuses (part_of_remaining (step_by rules.now) (context inside.now) (seen_use one.now)) left fault) }
 {
-    let Ok(own) = own_uses(rules.alloc, one.tree) else {
+    let Ok(own) = entered_uses(rules, one.tree) else {
         return Err(ExpandFault::NoMemory);
     };
     let below = rewrite_each(rules, inside, own.as_slice(), left)?;
-    match rebuilt(rules.alloc, one, below.results) {
+    match remaining(rules, one, below.results) {
         Ok(results) => Ok(Rewritten {
             results,
             left: below.left,
         }),
         Err(_) => Err(ExpandFault::NoMemory),
     }
+}
+
+/// What remains of a use that no request meets, over the results of the uses that are gone through.
+fn remaining(rules: &Rules, one: &Seen, below: Vec<TreeUse>) -> Result<Vec<TreeUse>, AllocError>
+    ensures { IfOk result (λ results. map shown_use results.items ≡ remains (step_by rules.now) (seen_use one.now) (map shown_use below.items)) }
+{
+    if !enters(rules, one.tree) {
+        let same = unchanged(rules.alloc, one)?;
+        return Ok(same);
+    }
+    if is_pruned(rules, one.tree, below.as_slice()) {
+        return Ok(Vec::new(rules.alloc));
+    }
+    let stays = rebuilt(rules.alloc, one, below)?;
+    Ok(stays)
+}
+
+/// Whether a tree that is gone through goes with its uses: it has some, and none is left.
+fn is_pruned(rules: &Rules, tree: &Tree, below: &[TreeUse]) -> bool
+    ensures { result ≡ is_pruned_by (step_by rules.now) (shown_tree tree.now) (map shown_use below.now) }
+{
+    let own = tree.uses.as_slice();
+    rules.rule.prune && (!own.is_empty() && below.is_empty())
+}
+
+/// A use as it is, as the one result.
+fn unchanged(alloc: Global, one: &Seen) -> Result<Vec<TreeUse>, AllocError>
+    ensures { IfOk result (λ results. map shown_use results.items ≡ seen_use one.now ∷ []) }
+{
+    let tree = copied(alloc, one.tree)?;
+    let stays = use_of(alloc, one.turn, &one.word, tree)?;
+    let mut results = Vec::new(alloc);
+    results.push(stays)?;
+    Ok(results)
 }
 
 /// A use with other uses in its tree, as the one result.

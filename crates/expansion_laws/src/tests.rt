@@ -1,6 +1,6 @@
 use super::*;
 use location_words::{Pair, Word, WordFault};
-use orientation::{Kind, Turn, sign};
+use orientation::{Kind, Rule, Turn, sign};
 use std::alloc::{AllocError, Global};
 use std::test::Fail;
 
@@ -132,7 +132,7 @@ fn an_edge_is_replaced_by_a_wire(rt: HostRuntime) -> Result<(), Fail> {
             Some(plain(alloc, Turn::Forward, target)?)
         ),
     ]?;
-    let new = rewrite_slow(alloc, &root, &requests, &kinds, 20)?;
+    let new = rewrite_slow(alloc, &root, &requests, &kinds, Rule::usual(), 20)?;
     let halves = pair_of(
         alloc,
         3,
@@ -166,7 +166,7 @@ fn a_shared_edge_gets_another_vertex(rt: HostRuntime) -> Result<(), Fail> {
             Some(plain(alloc, Turn::Forward, leaf(alloc, 7))?)
         ),
     ]?;
-    let new = rewrite_slow(alloc, &root, &requests, &kinds, 20)?;
+    let new = rewrite_slow(alloc, &root, &requests, &kinds, Rule::usual(), 20)?;
     assert!(rt; same_tree(&new.tree, &shell(alloc, 7)?));
     Ok(())
 }
@@ -195,7 +195,7 @@ fn a_face_is_replaced_at_one_place(rt: HostRuntime) -> Result<(), Fail> {
     let mut request = always(leaf(alloc, 6), Some(target));
     request.place = Some(by_datum(alloc, 1, 1)?);
     let requests = vec![in alloc; request]?;
-    let new = rewrite_slow(alloc, &root, &requests, &kinds, 20)?;
+    let new = rewrite_slow(alloc, &root, &requests, &kinds, Rule::usual(), 20)?;
     assert!(rt; same_tree(&new.tree, &two_solids(alloc, 4)?));
     Ok(())
 }
@@ -210,7 +210,7 @@ fn a_turn_counts_where_it_is_accumulated(rt: HostRuntime) -> Result<(), Fail> {
         let mut request = always(leaf(alloc, 2), None);
         request.turn = Some(turn);
         let requests = vec![in alloc; request]?;
-        let new = rewrite_slow(alloc, &root, &requests, &kinds, 2)?;
+        let new = rewrite_slow(alloc, &root, &requests, &kinds, Rule::usual(), 2)?;
         assert_eq!(rt; sign(new.turn), b'i');
         assert_eq!(rt; new.tree.uses.len(), want);
     }
@@ -240,7 +240,7 @@ fn a_cycle_ends_at_the_budget(rt: HostRuntime) -> Result<(), Fail> {
     );
     let requests = vec![in alloc; there, back]?;
     assert_eq!(rt;
-        fault_of(rewrite_slow(alloc, &root, &requests, &kinds, 50)),
+        fault_of(rewrite_slow(alloc, &root, &requests, &kinds, Rule::usual(), 50)),
         Some(ExpandFault::TooBig)
     );
     Ok(())
@@ -263,8 +263,55 @@ fn an_accumulated_word_is_tested(rt: HostRuntime) -> Result<(), Fail> {
     root.word = by_datum(alloc, 1, 1_099_511_627_776)?;
     let want = ExpandFault::Word(WordFault::Power(1_099_511_627_777));
     assert_eq!(rt;
-        fault_of(rewrite_slow(alloc, &root, &[], &kinds, 50)),
+        fault_of(rewrite_slow(alloc, &root, &[], &kinds, Rule::usual(), 50)),
         Some(want)
     );
+    Ok(())
+}
+
+#[test]
+fn the_rule_stops_and_prunes(rt: HostRuntime) -> Result<(), Fail> {
+    let alloc = rt.alloc();
+    let kinds = [
+        Kind::Sh,
+        Kind::Fa,
+        Kind::Fa,
+        Kind::Wi,
+        Kind::Wi,
+        Kind::Ed,
+        Kind::Ve,
+        Kind::Ve,
+        Kind::Ve,
+    ];
+    let root = plain(alloc, Turn::Forward, shell(alloc, 8)?)?;
+    let requests = vec![in alloc;
+        always(
+            leaf(alloc, 8),
+            Some(plain(alloc, Turn::Forward, leaf(alloc, 7))?)
+        ),
+    ]?;
+    let faces = Rule {
+        stop: Kind::Fa,
+        prune: false,
+    };
+    let new = rewrite_slow(alloc, &root, &requests, &kinds, faces, 3)?;
+    assert!(rt; same_tree(&new.tree, &shell(alloc, 8)?));
+
+    let kinds = [Kind::Co, Kind::So, Kind::Sh, Kind::Fa, Kind::Ve];
+    let solid = over(
+        alloc,
+        2,
+        Turn::Forward,
+        over(alloc, 3, Turn::Forward, leaf(alloc, 4))?,
+    )?;
+    let tree = pair_of(alloc, 1, solid, Turn::Forward, leaf(alloc, 5))?;
+    let root = plain(alloc, Turn::Forward, tree)?;
+    let requests = vec![in alloc; always(leaf(alloc, 4), None)]?;
+    let pruning = Rule {
+        stop: Kind::Ve,
+        prune: true,
+    };
+    let new = rewrite_slow(alloc, &root, &requests, &kinds, pruning, 20)?;
+    assert!(rt; same_tree(&new.tree, &over(alloc, 1, Turn::Forward, leaf(alloc, 5))?));
     Ok(())
 }

@@ -1,8 +1,11 @@
 //! Depth first search of a graph of numbered nodes.
-ghost use Rattle.std.specs.Prelude.{◌≡◌, ◌<◌, ℕ, List, IfOk, IsTrue, ◌↔◌, All, length, map, Contains, ◌++◌, ◌∷◌, []};
-ghost use Rattle.graph_walks.specs.Search.{IsFound, ends_of};
+ghost use Rattle.graph_walks.specs.Graph.{ends_of, EndsAreNodes};
+ghost use Rattle.graph_walks.specs.Search.{IsFound};
 ghost use Rattle.graph_walks.specs.Walks.{HasCycle};
+ghost use Rattle.graph_walks.specs.declared.depth_first.Mark.TheVariants.{New};
+ghost use Rattle.std.specs.Prelude.{◌≡◌, ◌<◌, ◌+◌, ◌^◌, ℕ, List, IfOk, IfSome, IsTrue, ◌↔◌, length, map, Contains, ◌++◌, ◌∷◌, [], replicate, slice_get};
 
+use crate::graph::Graph;
 use std::alloc::{AllocError, Global};
 
 /// Where the search stands with a node.
@@ -25,20 +28,17 @@ struct Frame {
 pub enum Found {
     /// The first cycle: its nodes, and the first one again.
     Cycle(Vec<u32>),
-    /// Nodes, among them all that the root reaches, each once and after the ends of its edges.
+    /// All that the root reaches, each node once and after the ends of its edges.
     Order(Vec<u32>),
 }
 
-/// Searches depth first from the root, each node once.
-pub fn search(alloc: Global, graph: &[Vec<u32>], root: u32) -> Result<Found, AllocError>
+/// Searches depth first from the root, each node once, in the order of the edges.
+pub fn search(alloc: Global, graph: &Graph, root: u32) -> Result<Found, AllocError>
     requires root { root < length graph.now }
-    requires ends { All (λ v. All (λ y. y < length graph.now) v.items) graph.now }
+    requires ends { EndsAreNodes graph.now }
     ensures { IfOk result (IsFound graph.now root) }
 {
-    let mut marks = Vec::new(alloc);
-    for _ in 0..graph.len() {
-        marks.push(Mark::New)?;
-    }
+    let mut marks = new_marks(alloc, graph.len())?;
     let mut order = Vec::new(alloc);
     let mut path = Vec::new(alloc);
     marks[root as usize] = Mark::OnPath;
@@ -47,13 +47,11 @@ pub fn search(alloc: Global, graph: &[Vec<u32>], root: u32) -> Result<Found, All
         next: 0,
     })?;
     while let Some(top) = path.pop() {
-        let ends = graph[top.node as usize].as_slice();
-        if top.next == ends.len() {
+        let Some(end) = next_end(graph, top) else {
             marks[top.node as usize] = Mark::Done;
             order.push(top.node)?;
             continue;
-        }
-        let end = ends[top.next];
+        };
         match marks[end as usize] {
             Mark::Done => path.push(Frame {
                 node: top.node,
@@ -61,8 +59,7 @@ pub fn search(alloc: Global, graph: &[Vec<u32>], root: u32) -> Result<Found, All
             })?,
             Mark::OnPath => {
                 path.push(top)?;
-                let walk = closed(alloc, path.as_slice(), end)?;
-                return Ok(Found::Cycle(walk));
+                return Ok(Found::Cycle(closed(alloc, path.as_slice(), end)?));
             }
             Mark::New => {
                 marks[end as usize] = Mark::OnPath;
@@ -74,10 +71,10 @@ pub fn search(alloc: Global, graph: &[Vec<u32>], root: u32) -> Result<Found, All
     Ok(Found::Order(order))
 }
 
-/// Whether the graph has a cycle that the root reaches.
-pub fn has_cycle(alloc: Global, graph: &[Vec<u32>], root: u32) -> Result<bool, AllocError>
+/// Whether the root reaches a cycle.
+pub fn has_cycle(alloc: Global, graph: &Graph, root: u32) -> Result<bool, AllocError>
     requires root { root < length graph.now }
-    requires ends { All (λ v. All (λ y. y < length graph.now) v.items) graph.now }
+    requires ends { EndsAreNodes graph.now }
     ensures { IfOk result (λ b. IsTrue b ↔ HasCycle (ends_of graph.now) root) }
 {
     match search(alloc, graph, root)? {
@@ -86,10 +83,31 @@ pub fn has_cycle(alloc: Global, graph: &[Vec<u32>], root: u32) -> Result<bool, A
     }
 }
 
+/// Marks of nodes that aren't met yet.
+fn new_marks(alloc: Global, nodes: usize) -> Result<Vec<Mark>, AllocError>
+    ensures { IfOk result (λ marks. marks.items ≡ replicate nodes New) }
+{
+    let mut marks = Vec::new(alloc);
+    for _ in 0..nodes {
+        marks.push(Mark::New)?;
+    }
+    Ok(marks)
+}
+
+/// The end of the next edge of a frame, if one is left.
+fn next_end(graph: &Graph, frame: Frame) -> Option<u32>
+    requires { frame.node < length graph.now }
+    ensures end { result ≡ slice_get (ends_of graph.now frame.node) frame.next }
+    ensures room { IfSome result (λ _. frame.next + 1 < 2 ^ 64) }
+{
+    graph.ends(frame.node).get(frame.next).copied()
+}
+
 /// The path from a node on, and that node again.
 fn closed(alloc: Global, path: &[Frame], end: u32) -> Result<Vec<u32>, AllocError>
     requires { Contains (map (λ f. f.node) path.now) end }
-    ensures { IfOk result (λ w. (older : List ℕ) × (newer : List ℕ) × (map (λ f. f.node) path.now ≡ older ++ end ∷ newer) × (w.items ≡ end ∷ newer ++ end ∷ [])) }
+    ensures { IfOk result (λ walk. (older : List ℕ) × (newer : List ℕ)
+        × (map (λ f. f.node) path.now ≡ older ++ end ∷ newer) × (walk.items ≡ end ∷ newer ++ end ∷ [])) }
 {
     let mut walk = Vec::new(alloc);
     let mut met = false;

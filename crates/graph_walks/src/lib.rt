@@ -2,9 +2,12 @@
 #![tactic(auto)]
 
 mod depth_first;
+mod graph;
+pub mod laws;
 mod ranking;
 
 pub use depth_first::{Found, has_cycle, search};
+pub use graph::Graph;
 pub use ranking::ranks;
 
 #[cfg(test)]

@@ -1,17 +1,18 @@
 //! Ranks of numbered nodes.
-ghost use Rattle.std.specs.Prelude.{◌≡◌, ◌<◌, ℕ, IfOk, All, length, reverse, Contains, ◌^◌, slice_index_or};
-ghost use Rattle.graph_walks.specs.Search.{ends_of};
+ghost use Rattle.graph_walks.specs.Graph.{ends_of, EndsAreNodes};
 ghost use Rattle.graph_walks.specs.Walks.{IsFinishOrder, IsRank, rank_over};
+ghost use Rattle.std.specs.Prelude.{◌≡◌, ◌<◌, ℕ, IfOk, All, length, reverse, Contains, ◌^◌, slice_index_or};
 
+use crate::graph::Graph;
 use std::alloc::{AllocError, Global};
 
 /// One more than the greatest rank of the nodes, or 0 where there is none.
-fn over(ranks: &[u32], ends: &[u32]) -> u32
+fn over(ranks: &[usize], ends: &[u32]) -> usize
     requires within { All (λ y. y < length ranks.now) ends.now }
-    requires small { All (λ r. r < 2 ^ 31) ranks.now }
+    requires small { All (λ r. r < 2 ^ 63) ranks.now }
     ensures { result ≡ rank_over (λ y. slice_index_or ranks.now y 0) ends.now }
 {
-    let mut rank: u32 = 0;
+    let mut rank = 0;
     for y in ends {
         let next = ranks[*y as usize] + 1;
         if rank < next {
@@ -21,20 +22,23 @@ fn over(ranks: &[u32], ends: &[u32]) -> u32
     rank
 }
 
-/// The rank of each node of an order of finishing.
-pub fn ranks(alloc: Global, graph: &[Vec<u32>], order: &[u32]) -> Result<Vec<u32>, AllocError>
-    requires ends { All (λ v. All (λ y. y < length graph.now) v.items) graph.now }
+/// The rank of each node of an order of finishing, at its number, and 0 at the number of any other node.
+pub fn ranks(alloc: Global, graph: &Graph, order: &[u32]) -> Result<Vec<usize>, AllocError>
+    requires ends { EndsAreNodes graph.now }
     requires within { All (λ x. x < length graph.now) order.now }
     requires order { IsFinishOrder (ends_of graph.now) (reverse order.now) }
-    requires few { length order.now < 2 ^ 31 }
-    ensures { IfOk result (λ ranks. (x : ℕ) → Contains order.now x → IsRank (ends_of graph.now) x (slice_index_or ranks.items x 0)) }
+    ensures long { IfOk result (λ ranks. length ranks.items ≡ length graph.now) }
+    ensures ranked { IfOk result (λ ranks. (x : ℕ) → Contains order.now x
+        → IsRank (ends_of graph.now) x (slice_index_or ranks.items x 0)) }
+    ensures others { IfOk result (λ ranks. (x : ℕ) → (Contains order.now x → ⊥)
+        → slice_index_or ranks.items x 0 ≡ 0) }
 {
     let mut ranks = Vec::new(alloc);
     for _ in 0..graph.len() {
-        ranks.push(0u32)?;
+        ranks.push(0usize)?;
     }
     for x in order {
-        let rank = over(ranks.as_slice(), graph[*x as usize].as_slice());
+        let rank = over(ranks.as_slice(), graph.ends(*x));
         ranks[*x as usize] = rank;
     }
     Ok(ranks)

@@ -6,7 +6,7 @@ use Rattle.expansion_laws.specs.Plain.{shown_use}
 use Rattle.expansion_laws.specs.SlowRewriting.{act_of, shown_request}
 use Rattle.expansion_laws.specs.SlowParts.{context, seen_use, step_by, part_of_all, part_of_act, Gives, Refuses}
 use Rattle.expansion_laws.proofs.Members.{take-at, split-at, map-place, take-map-all}
-use Rattle.expansion_laws.proofs.PartLemmas.{gives-less, use-too-big, use-word, use-refused, use-given, match-rebuilt, match-act, rebuilt-refused, rebuilt-given, act-later, act-refused, act-given, none-given, more-given, more-refused}
+use Rattle.expansion_laws.proofs.PartLemmas.{gives-less, use-too-big, use-word, use-refused, use-given, match-remaining, match-act, remaining-refused, remaining-given, act-later, act-refused, act-given, none-given, more-given, more-refused}
 use Rattle.expansion_laws.proofs.rewriting.+rewrite.Goals as goal
 
 -- ---- a use
@@ -35,8 +35,8 @@ rewrite_use-returns-clause-ok t c =
     use-given (step_by c.args.rules.now) (context c.args.here.now) (seen_use c.args.one.now) c.args.left c.if-left-eq0.false (map shown_use c.in_ok-matched.matched.results.items) c.in_ok-matched.matched.left c.in_ok-tested.ensures.within c.in_ok-matched.ensures.ok
 
 -- ---- by its match
-pub rewrite_matched-rebuild-requires : goal.rewrite_matched-rebuild-requires
-rewrite_matched-rebuild-requires t c =
+pub rewrite_matched-go_through-requires : goal.rewrite_matched-go_through-requires
+rewrite_matched-go_through-requires t c =
     let measure : 5 * c.args.left + 4 ≡ t = c.decreases in
     let falls : 5 * c.args.left + 3 < t = omega (arith, measure) in
     (falls, tt)
@@ -49,13 +49,13 @@ rewrite_matched-replace-requires t c =
 
 pub rewrite_matched-returns-in-None-clause-ok : goal.rewrite_matched-returns-in-None-clause-ok
 rewrite_matched-returns-in-None-clause-ok t c =
-    subst (λ p. IfOk c.rebuild.result (λ r. Gives p c.args.left (map shown_use r.results.items) r.left))
-    (sym (match-rebuilt (step_by c.args.rules.now) (context c.args.here.now) (context c.args.inside.now) (seen_use c.args.one.now) c.requires (sym c.in-None.ensures))) c.rebuild.ensures.ok
+    subst (λ p. IfOk c.go_through.result (λ r. Gives p c.args.left (map shown_use r.results.items) r.left))
+    (sym (match-remaining (step_by c.args.rules.now) (context c.args.here.now) (context c.args.inside.now) (seen_use c.args.one.now) c.requires (sym c.in-None.ensures))) c.go_through.ensures.ok
 
 pub rewrite_matched-returns-in-None-clause-refused : goal.rewrite_matched-returns-in-None-clause-refused
 rewrite_matched-returns-in-None-clause-refused t c =
-    subst (λ p. IfErr c.rebuild.result (λ fault. Refuses p c.args.left fault))
-    (sym (match-rebuilt (step_by c.args.rules.now) (context c.args.here.now) (context c.args.inside.now) (seen_use c.args.one.now) c.requires (sym c.in-None.ensures))) c.rebuild.ensures.refused
+    subst (λ p. IfErr c.go_through.result (λ fault. Refuses p c.args.left fault))
+    (sym (match-remaining (step_by c.args.rules.now) (context c.args.here.now) (context c.args.inside.now) (seen_use c.args.one.now) c.requires (sym c.in-None.ensures))) c.go_through.ensures.refused
 
 pub rewrite_matched-returns-in-Some-target-clause-ok : goal.rewrite_matched-returns-in-Some-target-clause-ok
 rewrite_matched-returns-in-Some-target-clause-ok t c =
@@ -70,22 +70,22 @@ rewrite_matched-returns-in-Some-target-clause-refused t c =
     ∙ ap (λ a. part_of_act (step_by c.args.rules.now) (context c.args.here.now) (seen_use c.args.one.now) c.in-Some.request.now.place (act_of a)) c.in-Some-target.is)) c.replace.ensures.refused
 
 -- ---- a use that stays
-pub rebuild-rewrite_each-requires : goal.rebuild-rewrite_each-requires
-rebuild-rewrite_each-requires t c =
+pub go_through-rewrite_each-requires : goal.go_through-rewrite_each-requires
+go_through-rewrite_each-requires t c =
     let measure : 5 * c.args.left + 3 ≡ t = c.decreases in
     let falls : 5 * c.args.left + 2 < t = omega (arith, measure) in
     (falls, tt)
 
-pub rebuild-returns-in_err-below-clause-refused : goal.rebuild-returns-in_err-below-clause-refused
-rebuild-returns-in_err-below-clause-refused t c =
-    let due = rebuilt-refused (step_by c.args.rules.now) (context c.args.inside.now) (seen_use c.args.one.now) (map seen_use c.as_slice.result.now) c.args.left c.in_err-below.field-0.0
+pub go_through-returns-in_err-below-clause-refused : goal.go_through-returns-in_err-below-clause-refused
+go_through-returns-in_err-below-clause-refused t c =
+    let due = remaining-refused (step_by c.args.rules.now) (context c.args.inside.now) (seen_use c.args.one.now) (map seen_use c.as_slice.result.now) c.args.left c.in_err-below.field-0.0
     (ap (map seen_use) c.as_slice.ensures.value ∙ c.in-Ok.ensures) c.in_err-below.ensures.refused in
     search rules
 
-pub rebuild-returns-in-Ok-rebuilt-clause-ok : goal.rebuild-returns-in-Ok-rebuilt-clause-ok
-rebuild-returns-in-Ok-rebuilt-clause-ok t c =
-    rebuilt-given (step_by c.args.rules.now) (context c.args.inside.now) (seen_use c.args.one.now) (map seen_use c.as_slice.result.now) c.args.left (map shown_use c.in_ok-below.below.results.items) (map shown_use c.in-Ok-rebuilt.results.items) c.in_ok-below.below.left
-    (ap (map seen_use) c.as_slice.ensures.value ∙ c.in-Ok.ensures) c.in-Ok-rebuilt.ensures c.in_ok-below.ensures.ok
+pub go_through-returns-in-Ok-remaining-clause-ok : goal.go_through-returns-in-Ok-remaining-clause-ok
+go_through-returns-in-Ok-remaining-clause-ok t c =
+    remaining-given (step_by c.args.rules.now) (context c.args.inside.now) (seen_use c.args.one.now) (map seen_use c.as_slice.result.now) c.args.left (map shown_use c.in_ok-below.below.results.items) (map shown_use c.in-Ok-remaining.results.items) c.in_ok-below.below.left
+    (ap (map seen_use) c.as_slice.ensures.value ∙ c.in-Ok.ensures) c.in-Ok-remaining.ensures c.in_ok-below.ensures.ok
 
 -- ---- a replace
 pub replace-returns-in_err-next-clause-refused : goal.replace-returns-in_err-next-clause-refused

@@ -10,8 +10,8 @@ decreases-rewrite_use l = 5 * l.left
 abbrev pub decreases-rewrite_matched : goal.decreases-rewrite_matched
 decreases-rewrite_matched l = 5 * l.left + 4
 
-abbrev pub decreases-rebuild : goal.decreases-rebuild
-decreases-rebuild l = 5 * l.left + 3
+abbrev pub decreases-go_through : goal.decreases-go_through
+decreases-go_through l = 5 * l.left + 3
 
 abbrev pub decreases-replace : goal.decreases-replace
 decreases-replace l = 5 * l.left + 3

@@ -1,13 +1,7 @@
 -- The marks, the order and the path are those of a search.
-use Rattle.std.proofs.Common.{◌≡◌, ◌+◌, ℕ, reverse, length}
-use Rattle.std.proofs.lemmas.List.{length-set}
-use Rattle.std.specs.Prelude.{replicate}
-use Rattle.graph_walks.specs.declared.depth_first.Mark.TheVariants.{New}
+use Rattle.std.proofs.Common.{◌+◌, reverse}
 use Rattle.graph_walks.specs.Search.{IsSearch, new_work, frames_work}
 use Rattle.graph_walks.proofs.depth_first.search.Given as goal
-
-abbrev pub invariant-loop : goal.invariant-loop
-invariant-loop l = l.marks.items ≡ replicate l.counter New
 
 abbrev pub invariant-loop-top : goal.invariant-loop-top
 invariant-loop-top l = IsSearch l.graph l.root l.marks.items (reverse l.order.items) (reverse l.path.items)

@@ -2,7 +2,7 @@
 use Rattle.std.proofs.Common.{◌≡◌, ◌≤◌, ℕ, take, length, All, slice_index_or}
 use Rattle.std.specs.Prelude.{Contains}
 use Rattle.graph_walks.specs.Walks.{IsRank}
-use Rattle.graph_walks.specs.Search.{ends_of}
+use Rattle.graph_walks.specs.Graph.{ends_of}
 use Rattle.graph_walks.proofs.ranking.ranks.Given as goal
 
 abbrev pub invariant-loop : goal.invariant-loop
@@ -16,4 +16,5 @@ invariant-loop-x l = record {
   long : length l.ranks.items ≡ length l.graph;
   small : All (λ (r : ℕ). r ≤ l.x-index) l.ranks.items;
   told : (y : ℕ) → Contains (take l.x-index l.order) y → IsRank (ends_of l.graph) y (slice_index_or l.ranks.items y 0);
+  others : (y : ℕ) → (Contains (take l.x-index l.order) y → ⊥) → slice_index_or l.ranks.items y 0 ≡ 0;
 }
