@@ -1,10 +1,10 @@
--- The history of a step: which trees became which, which came of which, and which are gone.
+-- The history of a change of a root: which trees became which, which came of which, and which are gone.
 use Rattle.std.specs.Prelude.{◌≡◌, ◌≢◌, ◌⊎◌, ◌<◌, List, Contains}
 use Rattle.orientation.specs.declared.kind.Kind.{Kind}
 use Rattle.orientation.specs.declared.kind.Kind.TheVariants.{Ve, Ed, Fa, So}
 use Rattle.orientation.specs.Kinds.{rank_of}
-use Rattle.expansion_laws.specs.Trees.{Tree, Use, uses}
-use Rattle.expansion_laws.specs.Measures.{subtrees}
+use Rattle.expansion_laws.specs.Trees.{Tree, Use}
+use Rattle.expansion_laws.specs.Measures.{OccursIn, StandsBelow}
 use Rattle.expansion_laws.specs.Steps.{Step, kind}
 use Rattle.expansion_laws.specs.Visits.{IsImage, IsReplaced}
 
@@ -14,36 +14,32 @@ pub record History : Type 1 where
   pub generated : Tree → Tree → Type 0
   pub removed : Tree → Type 0
 
--- a kind of which a history speaks: vertices, edges, faces and solids
-abbrev pub IsTold : Kind → Type 0
-IsTold k = (k ≡ Ve) ⊎ (k ≡ Ed) ⊎ (k ≡ Fa) ⊎ (k ≡ So)
+-- a kind that histories support: vertices, edges, faces and solids
+abbrev pub IsSupported : Kind → Type 0
+IsSupported k = (k ≡ Ve) ⊎ (k ≡ Ed) ⊎ (k ≡ Fa) ⊎ (k ≡ So)
 
--- a tree occurs in another: it is one of its subtrees
-abbrev pub OccursIn : Tree → Tree → Type 0
-OccursIn x whole = Contains (subtrees whole) x
+-- the trees of a first root that are first in no pair of a relation and don't occur in a last root
+abbrev pub IsGone : (Tree → Kind) → Tree → Tree → (Tree → Tree → Type 0) → Tree → Type 0
+IsGone kind_of before after R t = IsSupported (kind_of t) × OccursIn t before × ((s : Tree) → R t s → ⊥) × (OccursIn t after → ⊥)
 
--- a tree stands properly below another: it occurs in one of the trees of its uses
-abbrev pub StandsBelow : Tree → Tree → Type 0
-StandsBelow x above = (u : Use) × Contains (uses above) u × OccursIn x u.tree
-
--- What a history is read from: the kinds, the root's tree before and after, which visited trees have which images, and which
--- trees were replaced with which results. A step of requests gives these, and so may other ways of changing a root.
-module _ (kind_of : Tree → Kind) (before after : Tree) (IsImageOf : Tree → Tree → Type 0) (IsReplacedBy : Tree → List Use → Type 0) where
+-- What a history is read from: the kinds, the root's tree before and after, which trees have which images, and which trees took
+-- the place of a replaced tree. Each way of changing a root gives these.
+module _ (kind_of : Tree → Kind) (before after : Tree) (IsImageOf : Tree → Tree → Type 0) (IsReplacedBy : Tree → Tree → Type 0) where
   -- the images of the trees of the input
   abbrev pub images_of : Tree → Tree → Type 0
-  images_of t s = IsTold (kind_of t) × OccursIn t before × IsImageOf t s
+  images_of t s = IsSupported (kind_of t) × OccursIn t before × IsImageOf t s
 
-  -- what came of a replaced tree of the input: a tree of a lower kind properly below a result of a visit that replaces it,
-  -- which is the image of a visited tree that the input doesn't have
+  -- what came of a replaced tree of the input: a tree of a lower kind properly below one that took its place, which is an image of
+  -- a tree that the input doesn't have
   abbrev pub generated_of : Tree → Tree → Type 0
   generated_of t s =
-      (results : List Use) × (r : Use) × (q : Tree) × IsTold (kind_of t) × OccursIn t before × IsReplacedBy t results × Contains results r ×
-      IsTold (kind_of s) × (rank_of (kind_of s) < rank_of (kind_of t)) × StandsBelow s r.tree ×
+      (made : Tree) × (q : Tree) × IsSupported (kind_of t) × OccursIn t before × IsReplacedBy t made ×
+      IsSupported (kind_of s) × (rank_of (kind_of s) < rank_of (kind_of t)) × StandsBelow s made ×
       (OccursIn q before → ⊥) × IsImageOf q s
 
   -- the trees of the input that have no image and don't occur in the output
   abbrev pub removed_of : Tree → Type 0
-  removed_of t = IsTold (kind_of t) × OccursIn t before × ((s : Tree) → images_of t s → ⊥) × (OccursIn t after → ⊥)
+  removed_of = IsGone kind_of before after images_of
 
   abbrev pub history_of : History
   history_of = record { images = images_of; generated = generated_of; removed = removed_of }
