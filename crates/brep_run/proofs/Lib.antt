@@ -21,6 +21,7 @@ pub mod RemovalLoop
 pub mod Passing
 pub mod MadeRoot
 pub mod RemovalMatches
+pub mod RemovalKinds
 pub mod RemovalRewriting
 pub mod RemovalVisits
 pub mod RemovalFile

@@ -13,7 +13,8 @@ use Rattle.expansion_laws.specs.Visits.{IsImage}
 use Rattle.expansion_laws.specs.Walk.{RecordsAreTrees}
 use Rattle.expansion_laws.specs.Written.{flat, IsWritten}
 use Rattle.expansion_laws.proofs.Members.{Contains-here, Contains-there, Contains-none, place_of}
-use Rattle.step_history.specs.History.{IsTold, OccursIn, modified, step_history}
+use Rattle.step_history.specs.History.{IsSupported, modified, step_history}
+use Rattle.expansion_laws.specs.Measures.{OccursIn}
 use Rattle.brep_file.specs.declared.records.Record.{Record}
 use Rattle.brep_file.specs.declared.file.File.{File}
 use Rattle.brep_file.specs.PlainRecords.{plain_use, plain_records, tree_of_record, expansion_of, plain_root}
@@ -23,7 +24,7 @@ use Rattle.brep_run.specs.Completion.{NumbersTell, ArePlaced, Completes}
 use Rattle.brep_run.specs.Copies.{CanBeWritten}
 use Rattle.brep_run.specs.WrittenFile.{text_of}
 use Rattle.brep_run.specs.Removal.{removal_step, tree_written, IsRootAfter, history_after, ArePairsOf, AreNumbersOf, RemovalDone, Ascends, origins_written}
-use Rattle.brep_run.specs.Remaining.{is_among, is_told, has_place, is_gone, is_modified, passing, kept_records, tree_after, made_root, RootStays, RootGoes}
+use Rattle.brep_run.specs.Remaining.{is_among, is_supported, has_place, is_gone, is_modified, passing, kept_records, tree_after, made_root, RootStays, RootGoes}
 use Rattle.brep_file.specs.Marks.{kept_uses}
 use Rattle.brep_run.proofs.CopyLemmas.{stands-below}
 use Rattle.brep_run.proofs.KeptLists.{filter-all, map-same}
@@ -31,7 +32,8 @@ use Rattle.brep_run.proofs.MadeRoot.{made-only, made-writable}
 use Rattle.brep_run.proofs.Numbering.{plain_number}
 use Rattle.brep_run.proofs.Passing.{Passes, passing-member, passing-has, passing-ascends, first-of_pairs}
 use Rattle.brep_run.proofs.RemovalFile.{root-after, text-same, writable-over, after-tells}
-use Rattle.brep_run.proofs.RemovalHistory.{Orders, true-false, told-is, is-told, and-parts, and-both, kind-is, none-replaced, step-removes, step-modifies}
+use Rattle.brep_run.proofs.RemovalHistory.{Orders, true-false, supported-is, is-supported, and-parts, and-both, none-replaced, step-removes, step-modifies}
+use Rattle.brep_run.proofs.RemovalKinds.{kind-is}
 use Rattle.brep_run.proofs.RemovalRewriting.{AreRemoved, result_of, result-gone, result-stays, rewrites-are}
 use Rattle.brep_run.proofs.RemovalStanding.{stands-placed, placed-stands}
 use Rattle.brep_run.proofs.RemovalVisits.{image-is, no-image}
@@ -180,7 +182,7 @@ module _ (f : File) (numbers : List ℕ) (removed : ℕ → Bool) (tell : Number
 
       generated-due : (ns : List ℕ) → numbers ≡ ns → (t s : Tree) → (history_after f ns (expansion_of given.after)).generated t s → ⊥
       generated-due [] e t s is = is
-      generated-due (k ∷ ks) e t s is = none-replaced f (k ∷ ks) t is.0 is.5
+      generated-due (k ∷ ks) e t s is = none-replaced f (k ∷ ks) t is.0 is.4
 
       gone-due : (ns : List ℕ) → numbers ≡ ns → AreNumbersOf f (history_after f ns (expansion_of given.after)).removed gone
       gone-due [] e = record {
@@ -200,9 +202,9 @@ module _ (f : File) (numbers : List ℕ) (removed : ℕ → Bool) (tell : Number
 
     gone-of : (k : ℕ) → Passes (is_gone f before given.places) (length f.records) k → (step_history (removal_step f numbers) (expansion_of f) made_root).removed (tree_of_record f k)
     gone-of k p =
-        let told = and-parts (is_told (head_of f k).kind) (has_place before k && not (has_place given.places k)) p.test_is in
-        let both = and-parts (has_place before k) (not (has_place given.places k)) told.1 in (
-          subst IsTold (sym (kind-is f tell numbers k p.number)) (told-is (head_of f k).kind told.0),
+        let supported = and-parts (is_supported (head_of f k).kind) (has_place before k && not (has_place given.places k)) p.test_is in
+        let both = and-parts (has_place before k) (not (has_place given.places k)) supported.1 in (
+          subst IsSupported (sym (kind-is f numbers tell k p.number)) (supported-is (head_of f k).kind supported.0),
           stands-placed f tell (expansion_of f) before_order before before_placed before_completed.trees (laws.written (expansion_of f)).lists k p.number both.0,
           (λ s image. no-image_of (tree_of_record f k) s image.2),
           (λ m.
@@ -217,7 +219,7 @@ module _ (f : File) (numbers : List ℕ) (removed : ℕ → Bool) (tell : Number
         let k : ℕ = origin t in
         let had = placed-stands f tell (expansion_of f) before_order before before_placed before_completed.trees (laws.written (expansion_of f)).lists k stands.number
         (subst (λ x. OccursIn x (expansion_of f).tree) stands.tree is.1) in
-        let test : is_gone f before given.places k ≡ true = and-both (is_told (head_of f k).kind) (has_place before k && not (has_place given.places k)) (is-told (head_of f k).kind is.0)
+        let test : is_gone f before given.places k ≡ true = and-both (is_supported (head_of f k).kind) (has_place before k && not (has_place given.places k)) (is-supported (head_of f k).kind is.0)
         (and-both (has_place before k) (not (has_place given.places k)) had (ap not (given.none k stands.number))) in
         (k, subst (λ l. Contains l k) (sym given.gone_are) (passing-has (is_gone f before given.places) (length f.records) k stands.number test), sym stands.tree)
 
@@ -274,7 +276,7 @@ module _ (f : File) (numbers : List ℕ) (removed : ℕ → Bool) (tell : Number
 
       generated-due : (ns : List ℕ) → numbers ≡ ns → (t s : Tree) → (history_after f ns made_root).generated t s → ⊥
       generated-due [] e t s is = is
-      generated-due (k ∷ ks) e t s is = none-replaced f (k ∷ ks) t is.0 is.5
+      generated-due (k ∷ ks) e t s is = none-replaced f (k ∷ ks) t is.0 is.4
 
       gone-due : (ns : List ℕ) → numbers ≡ ns → AreNumbersOf f (history_after f ns made_root).removed gone
       gone-due [] e = absurd (some-removed e)

@@ -34,7 +34,7 @@ use Rattle.brep_run.specs.Completion.{NumbersTell, use_of_tree}
 use Rattle.brep_run.specs.Copies.{CanBeWritten}
 use Rattle.brep_run.specs.Layout.{layout}
 use Rattle.brep_run.specs.WrittenFile.{words_of_tree, words_under, locations_under, location_under, written_use, written_record, text_of}
-use Rattle.brep_run.specs.Remaining.{kept_records, tree_after, record_after, IsFileAfter, is_told, is_gone, is_modified, has_place, passing}
+use Rattle.brep_run.specs.Remaining.{kept_records, tree_after, record_after, IsFileAfter, is_supported, is_gone, is_modified, has_place, passing}
 use Rattle.brep_file.specs.Marks.{kept_uses, mark_of}
 use Rattle.brep_run.proofs.CopyLemmas.{record-at, kind-for, stands-below}
 use Rattle.brep_run.proofs.KeptLists.{by_places, filter-yes, filter-no, map-same}
@@ -217,13 +217,13 @@ module _ (f : File) (removed : ℕ → Bool) (tell : NumbersTell f) (walk : Reco
     gone-same before places =
         ap (passing (is_gone g before places)) after.size
         ∙ passing-same (is_gone g before places) (is_gone f before places) (length f.records)
-        (λ k n. ap (λ (kind : Kind). is_told kind && (has_place before k && not (has_place places k))) (kind-same k n))
+        (λ k n. ap (λ (kind : Kind). is_supported kind && (has_place before k && not (has_place places k))) (kind-same k n))
 
     pub modified-same : (changed : List Bool) (places : List ℕ) → passing (is_modified g changed places) (length g.records) ≡ passing (is_modified f changed places) (length f.records)
     modified-same changed places =
         ap (passing (is_modified g changed places)) after.size
         ∙ passing-same (is_modified g changed places) (is_modified f changed places) (length f.records)
-        (λ k n. ap (λ (kind : Kind). is_told kind && (mark_of changed k && has_place places k)) (kind-same k n))
+        (λ k n. ap (λ (kind : Kind). is_supported kind && (mark_of changed k && has_place places k)) (kind-same k n))
 
     module _ (again : NumbersTell g) where
       -- what stands in the root has the same head over both files

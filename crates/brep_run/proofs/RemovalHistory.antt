@@ -14,13 +14,14 @@ use Rattle.expansion_laws.specs.Visits.{IsImage, IsReplaced}
 use Rattle.expansion_laws.specs.Walk.{RecordsAreTrees}
 use Rattle.expansion_laws.specs.Written.{flat, IsWritten}
 use Rattle.expansion_laws.proofs.Members.{by_test, Contains-map, Contains-map_cases}
-use Rattle.step_history.specs.History.{History, IsTold, OccursIn, modified, step_history}
+use Rattle.step_history.specs.History.{History, IsSupported, modified, step_history}
+use Rattle.expansion_laws.specs.Measures.{OccursIn}
 use Rattle.brep_file.specs.declared.file.File.{File}
 use Rattle.brep_file.specs.PlainRecords.{tree_of_record, expansion_of}
 use Rattle.brep_run.specs.Dress.{head_of}
 use Rattle.brep_run.specs.Completion.{NumbersTell, ArePlaced, Completes, new_number}
 use Rattle.brep_run.specs.Removal.{removal_step, tree_written, AreInRange, ArePairsOf, AreNumbersOf}
-use Rattle.brep_run.specs.Remaining.{is_told, kept_records, tree_after, has_place, is_gone, is_modified, passing, pair_of, IsFileAfter, AreChanges}
+use Rattle.brep_run.specs.Remaining.{is_supported, kept_records, tree_after, has_place, is_gone, is_modified, passing, pair_of, IsFileAfter, AreChanges}
 use Rattle.brep_file.specs.Marks.{mark_of}
 use Rattle.brep_run.proofs.CopyLemmas.{Stands, stands-below}
 use Rattle.brep_run.proofs.Numbering.{plain_number}
@@ -28,27 +29,28 @@ use Rattle.brep_run.proofs.Passing.{Passes, passing-member, passing-has}
 use Rattle.brep_run.proofs.RemovalTrees.{not-true}
 use Rattle.brep_run.proofs.RemovalFile.{tree-after, after-sound}
 use Rattle.brep_run.proofs.RemovalMatches.{match-removes}
+use Rattle.brep_run.proofs.RemovalKinds.{kind-is}
 use Rattle.brep_run.proofs.RemovalRewriting.{AreRemoved}
 use Rattle.brep_run.proofs.RemovalStanding.{stands-placed, placed-stands, number-written, tree-written}
 use Rattle.brep_run.proofs.RemovalVisits.{Reached, reached, Imaged, image-is, image-of}
 
 -- ---- kinds
-pub told-is : (k : Kind) → is_told k ≡ true → IsTold k
-told-is Ve e = inl refl
-told-is Ed e = inr (inl refl)
-told-is Wi e = absurd cc
-told-is Fa e = inr (inr (inl refl))
-told-is Sh e = absurd cc
-told-is So e = inr (inr (inr refl))
-told-is CS e = absurd cc
-told-is Co e = absurd cc
+pub supported-is : (k : Kind) → is_supported k ≡ true → IsSupported k
+supported-is Ve e = inl refl
+supported-is Ed e = inr (inl refl)
+supported-is Wi e = absurd cc
+supported-is Fa e = inr (inr (inl refl))
+supported-is Sh e = absurd cc
+supported-is So e = inr (inr (inr refl))
+supported-is CS e = absurd cc
+supported-is Co e = absurd cc
 
-pub is-told : (k : Kind) → IsTold k → is_told k ≡ true
-is-told k t = elim t [
-  | inl e ↦ ap is_told e
+pub is-supported : (k : Kind) → IsSupported k → is_supported k ≡ true
+is-supported k t = elim t [
+  | inl e ↦ ap is_supported e
   | inr u ↦ elim u [
-    | inl e ↦ ap is_told e
-    | inr v ↦ elim v [ inl e ↦ ap is_told e | inr e ↦ ap is_told e ]
+    | inl e ↦ ap is_supported e
+    | inr v ↦ elim v [ inl e ↦ ap is_supported e | inr e ↦ ap is_supported e ]
   ]
 ]
 
@@ -62,16 +64,12 @@ and-both a b e g = rw (e, g) refl
 pub true-false : {a : Bool} → a ≡ true → a ≡ false → ⊥
 true-false t f = cc
 
--- the kind of a record's tree
-pub kind-is : (f : File) → NumbersTell f → (numbers : List ℕ) (k : ℕ) → IsNumberOf (length f.records) k → kind (removal_step f numbers) (tree_of_record f k) ≡ (head_of f k).kind
-kind-is f tell numbers k n = ap (λ j. (head_of f j).kind) (tell.trees.origins k (plain_number f k n))
-
 -- nothing is replaced
 remove-replace : (by : Use) → remove ≡ replace by → ⊥
 remove-replace by e = cc
 
-pub none-replaced : (f : File) (numbers : List ℕ) (x : Tree) (results : List Use) → IsReplaced (removal_step f numbers) (expansion_of f) x results → ⊥
-none-replaced f numbers x results is = remove-replace is.2 (sym (match-removes f numbers x is.0 is.1 is.4) ∙ is.5)
+pub none-replaced : (f : File) (numbers : List ℕ) (x made : Tree) → IsReplaced (removal_step f numbers) (expansion_of f) x made → ⊥
+none-replaced f numbers x made is = remove-replace is.2 (sym (match-removes f numbers x is.0 is.1 is.5) ∙ is.6)
 
 -- ---- the records before and after
 pub record Orders (f : File) (removed : ℕ → Bool) (g : File) (before_order before order places : List ℕ) : Type 0 where
@@ -127,7 +125,7 @@ module _ (f : File) (numbers : List ℕ) (removed : ℕ → Bool) (tell : Number
   told_history = step_history (removal_step f numbers) (expansion_of f) (expansion_of g)
 
   pub step-generates_none : (t s : Tree) → told_history.generated t s → ⊥
-  step-generates_none t s is = none-replaced f numbers t is.0 is.5
+  step-generates_none t s is = none-replaced f numbers t is.0 is.4
 
   module _ (determined : IsDetermined (removal_step f numbers)) where
     imaged : (x y : Tree) → IsImage (removal_step f numbers) (expansion_of f) x y → Imaged f numbers removed tell are walk x y
@@ -142,10 +140,10 @@ module _ (f : File) (numbers : List ℕ) (removed : ℕ → Bool) (tell : Number
     -- ---- removed
     gone-each : (k : ℕ) → Passes (is_gone f before places) (length f.records) k → told_history.removed (tree_of_record f k)
     gone-each k p =
-        let told = and-parts (is_told (head_of f k).kind) (has_place before k && not (has_place places k)) p.test_is in
-        let both = and-parts (has_place before k) (not (has_place places k)) told.1 in
+        let supported = and-parts (is_supported (head_of f k).kind) (has_place before k && not (has_place places k)) p.test_is in
+        let both = and-parts (has_place before k) (not (has_place places k)) supported.1 in
         let none : has_place places k ≡ false = not-true (has_place places k) both.1 in (
-          subst IsTold (sym (kind-is f tell numbers k p.number)) (told-is (head_of f k).kind told.0),
+          subst IsSupported (sym (kind-is f numbers tell k p.number)) (supported-is (head_of f k).kind supported.0),
           stood k p.number both.0,
           (λ s image. true-false (image-place k s p.number image.2) none),
           (λ m.
@@ -159,7 +157,7 @@ module _ (f : File) (numbers : List ℕ) (removed : ℕ → Bool) (tell : Number
     gone-all t is =
         let stands = occurs-is t is.1 in
         let k : ℕ = origin t in
-        let told : IsTold (head_of f k).kind = is.0 in
+        let supported : IsSupported (head_of f k).kind = is.0 in
         let had : has_place before k ≡ true = stood-place k stands.number (subst (λ x. OccursIn x (expansion_of f).tree) stands.tree is.1) in
         let not_placed : has_place places k ≡ true → ⊥ = λ e.
         is.2 (tree_after f removed k) (
@@ -169,7 +167,7 @@ module _ (f : File) (numbers : List ℕ) (removed : ℕ → Bool) (tell : Number
               (image-of f numbers removed tell are walk k stands.number (reaches k stands.number e)),
         ) in
         let none : has_place places k ≡ false = by_test (has_place places k) (λ e. absurd (not_placed e)) (λ e. e) in
-        let test : is_gone f before places k ≡ true = and-both (is_told (head_of f k).kind) (has_place before k && not (has_place places k)) (is-told (head_of f k).kind told)
+        let test : is_gone f before places k ≡ true = and-both (is_supported (head_of f k).kind) (has_place before k && not (has_place places k)) (is-supported (head_of f k).kind supported)
         (and-both (has_place before k) (not (has_place places k)) had (ap not none)) in
         (k, passing-has (is_gone f before places) (length f.records) k stands.number test, sym stands.tree)
 
@@ -190,7 +188,7 @@ module _ (f : File) (numbers : List ℕ) (removed : ℕ → Bool) (tell : Number
         pub number : ℕ
         pub in_file : IsNumberOf (length f.records) number
         pub is : pair_of order places number ≡ p
-        pub told : is_told (head_of f number).kind ≡ true
+        pub supported : is_supported (head_of f number).kind ≡ true
         pub differs : mark_of changed number ≡ true
         pub has : has_place places number ≡ true
 
@@ -198,9 +196,9 @@ module _ (f : File) (numbers : List ℕ) (removed : ℕ → Bool) (tell : Number
       modifies p m =
           let from = Contains-map_cases (pair_of order places) p (passing test_of (length f.records)) m in
           let passes = passing-member test_of (length f.records) from.0 from.1 in
-          let told = and-parts (is_told (head_of f from.0).kind) (mark_of changed from.0 && has_place places from.0) passes.test_is in
-          let both = and-parts (mark_of changed from.0) (has_place places from.0) told.1 in
-          record { number = from.0; in_file = passes.number; is = from.2; told = told.0; differs = both.0; has = both.1 }
+          let supported = and-parts (is_supported (head_of f from.0).kind) (mark_of changed from.0 && has_place places from.0) passes.test_is in
+          let both = and-parts (mark_of changed from.0) (has_place places from.0) supported.1 in
+          record { number = from.0; in_file = passes.number; is = from.2; supported = supported.0; differs = both.0; has = both.1 }
 
       written-is : (k : ℕ) → IsNumberOf (length f.records) k → has_place places k ≡ true → tree_written (expansion_of g) (new_number order places k) ≡ tree_after f removed k
       written-is k n e =
@@ -217,7 +215,7 @@ module _ (f : File) (numbers : List ℕ) (removed : ℕ → Bool) (tell : Number
           let at = reaches k is.in_file is.has in
           subst (λ (q : ℕ × ℕ). modified told_history (tree_of_record f q.0) (tree_written (expansion_of g) q.1)) is.is
           (subst (λ y. modified told_history (tree_of_record f k) y) (sym (written-is k is.in_file is.has)) (
-            (subst IsTold (sym (kind-is f tell numbers k is.in_file)) (told-is (head_of f k).kind is.told), at.below, image-of f numbers removed tell are walk k is.in_file at),
+            (subst IsSupported (sym (kind-is f numbers tell k is.in_file)) (supported-is (head_of f k).kind is.supported), at.below, image-of f numbers removed tell are walk k is.in_file at),
             other-tree k is.in_file is.differs,
           ))
 
@@ -226,12 +224,12 @@ module _ (f : File) (numbers : List ℕ) (removed : ℕ → Bool) (tell : Number
       modified-all t s is =
           let at = imaged t s is.0.2 in
           let k : ℕ = at.number in
-          let told : IsTold (head_of f k).kind = subst IsTold (kind-is f tell numbers k at.in_file) (subst (λ x. IsTold (kind (removal_step f numbers) x)) at.tree is.0.0) in
+          let supported : IsSupported (head_of f k).kind = subst IsSupported (kind-is f numbers tell k at.in_file) (subst (λ x. IsSupported (kind (removal_step f numbers) x)) at.tree is.0.0) in
           let has = stand-place k at.in_file at.stands in
           let differ : tree_eq (tree_after f removed k) (tree_of_record f k) ≡ false = by_test (tree_eq (tree_after f removed k) (tree_of_record f k))
           (λ e. absurd (is.1 (at.tree ∙ sym ((tell.test (tree_after f removed k) (tree_of_record f k)).0 e) ∙ sym at.image))) (λ e. e) in
           let mark : mark_of changed k ≡ true = changes.each k at.in_file ∙ ap not differ in
-          let test : test_of k ≡ true = and-both (is_told (head_of f k).kind) (mark_of changed k && has_place places k) (is-told (head_of f k).kind told) (and-both (mark_of changed k) (has_place places k) mark has) in (
+          let test : test_of k ≡ true = and-both (is_supported (head_of f k).kind) (mark_of changed k && has_place places k) (is-supported (head_of f k).kind supported) (and-both (mark_of changed k) (has_place places k) mark has) in (
             pair_of order places k,
             Contains-map (pair_of order places) k (passing test_of (length f.records)) (passing-has test_of (length f.records) k at.in_file test),
             sym at.tree,

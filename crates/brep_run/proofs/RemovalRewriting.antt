@@ -6,8 +6,8 @@ use Rattle.expansion_laws.specs.Trees.{Use, a_single, uses, origin, tree_of}
 use Rattle.expansion_laws.specs.Contexts.{Context, inside}
 use Rattle.expansion_laws.specs.Expansion.{IsNumberOf}
 use Rattle.expansion_laws.specs.Requests.{Request, match_of}
-use Rattle.expansion_laws.specs.Steps.{Step}
-use Rattle.expansion_laws.specs.Rewriting.{joined, all_results, rebuilt, by_act, by_match, results_within, Rewrites}
+use Rattle.expansion_laws.specs.Steps.{Step, entered}
+use Rattle.expansion_laws.specs.Rewriting.{joined, all_results, remains, by_act, by_match, results_within, Rewrites}
 use Rattle.expansion_laws.specs.Walk.{RecordsAreTrees}
 use Rattle.expansion_laws.proofs.Members.{by_test, Contains-here, Contains-there}
 use Rattle.brep_file.specs.declared.uses.FileUse.{FileUse}
@@ -22,12 +22,17 @@ use Rattle.brep_run.proofs.KeptLists.{filter-yes, filter-no}
 use Rattle.brep_run.proofs.Numbering.{uses_of_tree, plain_number}
 use Rattle.brep_run.proofs.RemovalTrees.{use_after, after-is, names-above}
 use Rattle.brep_run.proofs.RemovalMatches.{match-removes, no-match, has-match}
+use Rattle.brep_run.proofs.RemovalKinds.{entered-uses, remains-rebuilt}
 
 -- one level of the bounded function
 results-level : (s : Step) (m : ℕ) (c : Context) (u : Use) →
     results_within s (suc m) c u ≡ by_match s (λ d v. results_within s m d v) c u (match_of s.requests u.tree (inside c u))
 unfolding results_within
 results-level s m c u = refl
+
+map-none : {X Y : Type 0} (g : X → Y) (xs : List X) → map g xs ≡ [] → xs ≡ []
+map-none g [] e = refl
+map-none g (x ∷ xs) e = absurd cc
 
 -- removed records, by a list of numbers and a test that tells them
 pub record AreRemoved (f : File) (numbers : List ℕ) (removed : ℕ → Bool) : Type 0 where
@@ -88,17 +93,22 @@ module _ (f : File) (numbers : List ℕ) (removed : ℕ → Bool) (tell : Number
       let s : Step = removal_step f numbers in
       let again : Context → Use → Option (List Use) = λ d v. results_within s m d v in
       let at = record-at f k n in
-      let below : all_results (again (inside c u)) (uses u.tree) ≡ Some (map (use_after f removed) (kept_uses removed at.0.uses)) =
-      ap (all_results (again (inside c u))) (ap uses is ∙ uses_of_tree f tell k at.0 n at.1)
+      let listed = uses_of_tree f tell k at.0 n at.1 in
+      let after_uses : List Use = map (use_after f removed) (kept_uses removed at.0.uses) in
+      let below : all_results (again (inside c u)) (entered s u.tree) ≡ Some after_uses =
+      ap (all_results (again (inside c u))) (ap (entered s) is ∙ entered-uses f numbers tell k n ∙ listed)
       ∙ all-are (again (inside c u)) at.0.uses (λ v o.
       let names = names-above f removed tell walk k at.0 v n at.1 o in let above = names.0 in
       results-are m (inside c u) (use_of_tree f v) v.number names.1 refl (omega (arith, deep, above))) in
+      let bare : uses (tree_of_record f k) ≡ [] → after_uses ≡ [] =
+      λ none. ap (λ us. map (use_after f removed) (kept_uses removed us)) (map-none (use_of_tree f) at.0.uses (sym listed ∙ none)) in
       let named : origin u.tree ≡ k = ap origin is ∙ tell.trees.origins k (plain_number f k n) in
       let after = after-is f removed tell walk k at.0 n at.1 in
       results-level s m c u
       ∙ ap (λ x. by_match s again c u (match_of (removals f numbers) x (inside c u))) is
       ∙ ap (by_match s again c u) (match-none k (inside c u) n e)
-      ∙ ap (option_map (λ us. rebuilt u us ∷ [])) below
+      ∙ ap (option_map (remains s u)) below
+      ∙ ap Some (remains-rebuilt f numbers tell u k after_uses n is bare)
       ∙ ap (λ j. Some (a_single u.turn u.word (tree_of j (map (use_after f removed) (kept_uses removed at.0.uses))) ∷ [])) named
       ∙ ap (λ x. Some (a_single u.turn u.word x ∷ [])) (sym after)
       ∙ ap Some (sym (result-stays u k e)))

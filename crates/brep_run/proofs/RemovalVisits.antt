@@ -6,11 +6,11 @@ use Rattle.expansion_laws.specs.Trees.{Tree, Use, a_single, uses}
 use Rattle.expansion_laws.specs.Contexts.{Context, at_root, inside, bare}
 use Rattle.expansion_laws.specs.Demands.{demands, demands_by, demands_of_act}
 use Rattle.expansion_laws.specs.Expansion.{IsNumberOf}
-use Rattle.expansion_laws.specs.Measures.{subtrees}
+use Rattle.expansion_laws.specs.Measures.{subtrees, StandsBelow}
 use Rattle.expansion_laws.specs.Rewriting.{Rewrites}
 use Rattle.expansion_laws.specs.RewritingLaws.{IsDetermined}
-use Rattle.expansion_laws.specs.Steps.{Step}
-use Rattle.expansion_laws.specs.Visits.{LeadsTo, itself, onto, IsImage}
+use Rattle.expansion_laws.specs.Steps.{Step, is_entered}
+use Rattle.expansion_laws.specs.Visits.{LeadsTo, itself, onto, IsVisit, IsStopped, IsResult, IsImage}
 use Rattle.expansion_laws.specs.Walk.{RecordsAreTrees}
 use Rattle.expansion_laws.proofs.Members.{by_test, Contains-cases, Contains-none, Contains-here, Contains-map, Contains-map_cases}
 use Rattle.expansion_laws.proofs.Subtrees.{subtrees-itself, subtrees-cases, subtrees-use}
@@ -26,6 +26,7 @@ use Rattle.brep_run.proofs.KeptLists.{filter-keeps, filter-member}
 use Rattle.brep_run.proofs.Numbering.{uses_of_tree}
 use Rattle.brep_run.proofs.RemovalTrees.{use_after, uses-after, names-above, kept-number, not-true}
 use Rattle.brep_run.proofs.RemovalMatches.{match-removes}
+use Rattle.brep_run.proofs.RemovalKinds.{stopped-bare, entered-uses}
 use Rattle.brep_run.proofs.RemovalRewriting.{AreRemoved, result_of, result-gone, result-stays, match-none, match-some, rewrites-are}
 
 module _ (f : File) (numbers : List ℕ) (removed : ℕ → Bool) (tell : NumbersTell f) (are : AreRemoved f numbers removed) (walk : RecordsAreTrees (kept_records f removed)) where
@@ -40,7 +41,7 @@ module _ (f : File) (numbers : List ℕ) (removed : ℕ → Bool) (tell : Number
       ∙ ap (demands_of_act the_step (tree_of_record f k) here r.0.place) (match-removes f numbers (tree_of_record f k) here r.0 r.1)
 
   demands-uses : (k : ℕ) (here : Context) → IsNumberOf (length f.records) k → removed k ≡ false → demands the_step (tree_of_record f k) here ≡ uses (tree_of_record f k)
-  demands-uses k here n e = ap (demands_by the_step (tree_of_record f k) here) (match-none f numbers removed tell are walk k here n e)
+  demands-uses k here n e = ap (demands_by the_step (tree_of_record f k) here) (match-none f numbers removed tell are walk k here n e) ∙ entered-uses f numbers tell k n
 
   -- ---- from a record that is removed no other is visited
   leads-no_further : (x y : Tree) (here there : Context) → LeadsTo the_step x here y there → (k : ℕ) → IsNumberOf (length f.records) k → x ≡ tree_of_record f k → removed k ≡ true → y ≡ tree_of_record f k
@@ -121,6 +122,28 @@ module _ (f : File) (numbers : List ℕ) (removed : ℕ → Bool) (tell : Number
         })
   ]
 
+  -- ---- where a visit stops
+  -- a visited tree is that of a record
+  visited-record : (x : Tree) (here : Context) → IsVisit the_step (expansion_of f) x here → (k : ℕ) × IsNumberOf (length f.records) k × (x ≡ tree_of_record f k)
+  visited-record x here visit = by_test (removed f.root.number)
+      (λ e. (
+        f.root.number,
+        tell.sound.root,
+        leads-no_further (tree_of_record f f.root.number) x (inside at_root (expansion_of f)) here visit f.root.number tell.sound.root refl e,
+      ))
+      (λ e. (let at = visited (tree_of_record f f.root.number) x (inside at_root (expansion_of f)) here visit f.root.number tell.sound.root refl e in (at.number, at.in_file, at.tree)))
+
+  -- so nothing stands below one at which a visit stops
+  none-below_stopped : (x above : Tree) → IsStopped the_step (expansion_of f) above → StandsBelow x above → ⊥
+  none-below_stopped x above stopped below =
+      let at = visited-record above stopped.0 stopped.1 in
+      let none : uses above ≡ [] = ap uses at.2 ∙ stopped-bare f numbers tell at.0 at.1 (ap (is_entered the_step) (sym at.2) ∙ stopped.3) in
+      Contains-none below.0 (subst (λ l. Contains l below.0) none below.1)
+
+  -- and an image is that of a result
+  image-result : (x y : Tree) → IsImage the_step (expansion_of f) x y → IsResult the_step (expansion_of f) x y
+  image-result x y image = elim image [ inl result ↦ result | inr stays ↦ absurd (none-below_stopped x stays.1.0 stays.1.1 stays.1.2) ]
+
   -- ---- images
   -- an image in a step that doesn't remove the root: a record's new tree, which stands in the new root
   pub record Imaged (x y : Tree) : Type 0 where
@@ -136,7 +159,8 @@ module _ (f : File) (numbers : List ℕ) (removed : ℕ → Bool) (tell : Number
     results-at x here results k n is given = determined here (bare x) results (result_of f numbers removed tell are walk (bare x) k) given (rewrites-are f numbers removed tell are walk here (bare x) k n is)
 
     pub image-is : removed f.root.number ≡ false → (x y : Tree) → IsImage the_step (expansion_of f) x y → Imaged x y
-    image-is e x y image =
+    image-is e x y given =
+        let image = image-result x y given in
         let here = image.0 in
         let at = visited (tree_of_record f f.root.number) x (inside at_root (expansion_of f)) here image.2 f.root.number tell.sound.root refl e in
         let is = results-at x here image.1 at.number at.in_file at.tree image.3 in
@@ -155,7 +179,8 @@ module _ (f : File) (numbers : List ℕ) (removed : ℕ → Bool) (tell : Number
 
     -- a step that removes the root has no image
     pub no-image : removed f.root.number ≡ true → (x y : Tree) → IsImage the_step (expansion_of f) x y → ⊥
-    no-image e x y image =
+    no-image e x y given =
+        let image = image-result x y given in
         let here = image.0 in
         let same = leads-no_further (tree_of_record f f.root.number) x (inside at_root (expansion_of f)) here image.2 f.root.number tell.sound.root refl e in
         let is = results-at x here image.1 f.root.number tell.sound.root same image.3 in
@@ -166,7 +191,8 @@ module _ (f : File) (numbers : List ℕ) (removed : ℕ → Bool) (tell : Number
   image-of k n at =
       let leads = at.leads (inside at_root (expansion_of f)) in
       let one : result_of f numbers removed tell are walk (bare (tree_of_record f k)) k ≡ a_single Forward [] (tree_after f removed k) ∷ [] =
-      result-stays f numbers removed tell are walk (bare (tree_of_record f k)) k at.stays in (
+      result-stays f numbers removed tell are walk (bare (tree_of_record f k)) k at.stays in
+      inl (
         leads.0,
         result_of f numbers removed tell are walk (bare (tree_of_record f k)) k,
         leads.1,

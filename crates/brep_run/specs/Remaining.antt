@@ -51,12 +51,12 @@ abbrev pub touched : (ℕ → Bool) → Bool → Record → Record
 touched removed touch r = if touch then record { head = rebuilt r.head; uses = kept_uses removed r.uses } else r
 
 -- whether a history speaks of shapes of a kind: vertices, edges, faces and solids
-abbrev pub is_told : Kind → Bool
-is_told Ve = true
-is_told Ed = true
-is_told Fa = true
-is_told So = true
-is_told _ = false
+abbrev pub is_supported : Kind → Bool
+is_supported Ve = true
+is_supported Ed = true
+is_supported Fa = true
+is_supported So = true
+is_supported _ = false
 
 -- the numbers from 1 to n that pass a test, in ascending order
 abbrev pub passing : (ℕ → Bool) → ℕ → List ℕ
@@ -67,13 +67,13 @@ passing test (suc n) = passing test n ++ (if test (suc n) then suc n ∷ [] else
 abbrev pub has_place : List ℕ → ℕ → Bool
 has_place places k = not (slice_index places (k - 1) == 0)
 
--- the told records that have a place before and none after
+-- the records of a supported kind that have a place before and none after
 abbrev pub is_gone : File → List ℕ → List ℕ → ℕ → Bool
-is_gone f before after k = is_told (head_of f k).kind && (has_place before k && not (has_place after k))
+is_gone f before after k = is_supported (head_of f k).kind && (has_place before k && not (has_place after k))
 
--- the told records that changed and have a place after
+-- the records of a supported kind that changed and have a place after
 abbrev pub is_modified : File → List Bool → List ℕ → ℕ → Bool
-is_modified f changed after k = is_told (head_of f k).kind && (mark_of changed k && has_place after k)
+is_modified f changed after k = is_supported (head_of f k).kind && (mark_of changed k && has_place after k)
 
 -- a number and the number that it gets
 abbrev pub pair_of : List ℕ → List ℕ → ℕ → ℕ × ℕ

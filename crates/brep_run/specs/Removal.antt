@@ -1,13 +1,15 @@
 -- A step that removes shapes by their records' numbers: its requests, the root that it makes, and its history in numbers.
 use Rattle.std.specs.Prelude.{◌≡◌, ℕ, ◌-◌, ◌<◌, None, List, [], ◌∷◌, map, length, reverse, slice_get, unwrap_or, Contains}
 use Rattle.orientation.specs.declared.kind.Kind.{Kind}
+use Rattle.orientation.specs.Rules.{usual}
 use Rattle.expansion_laws.specs.Trees.{Tree, Use, origin, tree_of}
 use Rattle.expansion_laws.specs.Requests.{Request, remove}
 use Rattle.expansion_laws.specs.Steps.{Step}
 use Rattle.expansion_laws.specs.Rewriting.{StepsTo}
 use Rattle.expansion_laws.specs.Expansion.{IsNumberOf}
 use Rattle.expansion_laws.specs.Written.{flat}
-use Rattle.step_history.specs.History.{History, IsTold, OccursIn, modified, step_history}
+use Rattle.step_history.specs.History.{History, IsSupported, modified, step_history}
+use Rattle.expansion_laws.specs.Measures.{OccursIn}
 use Rattle.brep_file.specs.declared.file.File.{File}
 use Rattle.brep_file.specs.PlainRecords.{tree_of_record, expansion_of}
 use Rattle.brep_run.specs.Dress.{head_of}
@@ -22,18 +24,19 @@ kind_of_origin f k = (head_of f k).kind
 abbrev pub removals : File → List ℕ → List Request
 removals f numbers = map (λ k. record { source = tree_of_record f k; place = None; turn = None; act = remove }) numbers
 
+-- the step that carries them out, by the usual rule
 abbrev pub removal_step : File → List ℕ → Step
-removal_step f numbers = record { kind_of_origin = kind_of_origin f; requests = removals f numbers }
+removal_step f numbers = record { kind_of_origin = kind_of_origin f; requests = removals f numbers; rule = usual }
 
 -- the root after the removals; with none of them no step is carried out
 abbrev pub IsRootAfter : File → List ℕ → Use → Type 0
 IsRootAfter f [] root = root ≡ expansion_of f
 IsRootAfter f (k ∷ ks) root = StepsTo (removal_step f (k ∷ ks)) (expansion_of f) root
 
--- the history over no step: each tree of the input of a kind that is told is its own image
+-- the history over no step: each tree of the input of a supported kind is its own image
 abbrev pub no_history : File → History
 no_history f = record {
-  images = λ t s. IsTold (kind_of_origin f (origin t)) × OccursIn t (expansion_of f).tree × (s ≡ t);
+  images = λ t s. IsSupported (kind_of_origin f (origin t)) × OccursIn t (expansion_of f).tree × (s ≡ t);
   generated = λ t s. ⊥;
   removed = λ t. ⊥;
 }

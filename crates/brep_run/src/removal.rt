@@ -8,9 +8,9 @@ ghost use Rattle.expansion_laws.specs.Expansion.{IsNumberOf};
 ghost use Rattle.expansion_laws.specs.Trees.{Use};
 ghost use Rattle.std.specs.Prelude.{◌≡◌, All, IfOk, [], false, length, true};
 
+mod history;
 mod marks;
 mod remaining;
-mod told;
 
 use crate::laws::texts_stand_for_roots;
 use crate::writer::{Order, made_text, order_of, text_in_order};
@@ -19,11 +19,11 @@ use brep_tokens::Numbers;
 use expansion_laws::laws::{
     equal_trees_tell, records_are_trees, results_are_determined, roots_are_written,
 };
+use history::{gone_numbers, modified_pairs, origins_in};
 use history_text::NumberPairs;
 use marks::marked;
 use remaining::without_marked;
 use std::alloc::{AllocError, Global};
-use told::{gone_numbers, modified_pairs, origins_in};
 
 /// What a removal writes: the text of the file, and of its history the origin of each written number, the pairs of a
 /// modified record and the number it is written with, and the records that are gone. Nothing is generated.

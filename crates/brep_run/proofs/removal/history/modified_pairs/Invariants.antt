@@ -1,6 +1,6 @@
 use Rattle.std.proofs.Common.{◌≡◌, map}
 use Rattle.brep_run.specs.Remaining.{is_modified, pair_of, passing}
-use Rattle.brep_run.proofs.removal.told.modified_pairs.Given as goal
+use Rattle.brep_run.proofs.removal.history.modified_pairs.Given as goal
 
 abbrev pub invariant-loop-place : goal.invariant-loop-place
 invariant-loop-place l =

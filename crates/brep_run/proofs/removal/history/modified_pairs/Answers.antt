@@ -1,8 +1,8 @@
 use Rattle.std.proofs.Common.{◌∙◌, sym}
 use Rattle.brep_run.specs.Remaining.{is_modified}
 use Rattle.brep_run.proofs.Passing.{pairs-yes, pairs-no}
-use Rattle.brep_run.proofs.removal.told.modified_pairs.Goals as goal
-use Rattle.brep_run.proofs.removal.told.modified_pairs.Goals.{then-is_modified+in_ok-push, else-is_modified}
+use Rattle.brep_run.proofs.removal.history.modified_pairs.Goals as goal
+use Rattle.brep_run.proofs.removal.history.modified_pairs.Goals.{then-is_modified+in_ok-push, else-is_modified}
 
 pub loop-place-preserved : goal.loop-place-preserved
 loop-place-preserved c =

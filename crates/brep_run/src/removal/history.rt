@@ -1,6 +1,6 @@
 //! What the history of a removal says, in numbers.
 ghost use Rattle.brep_run.specs.Completion.{ArePlaced};
-ghost use Rattle.brep_run.specs.Remaining.{is_gone, is_modified, is_told, pair_of, passing};
+ghost use Rattle.brep_run.specs.Remaining.{is_gone, is_modified, is_supported, pair_of, passing};
 ghost use Rattle.expansion_laws.specs.Expansion.{IsNumberOf};
 ghost use Rattle.std.specs.Prelude.{◌≡◌, IfOk, length, map, reverse};
 
@@ -12,8 +12,8 @@ use orientation::Kind;
 use std::alloc::{AllocError, Global};
 
 /// Whether a history speaks of shapes of a kind: vertices, edges, faces and solids.
-fn is_told(kind: Kind) -> bool
-    ensures { result ≡ is_told kind }
+fn is_supported(kind: Kind) -> bool
+    ensures { result ≡ is_supported kind }
 {
     matches!(kind, Kind::Ve | Kind::Ed | Kind::Fa | Kind::So)
 }
@@ -30,17 +30,17 @@ pub(crate) fn origins_in(alloc: Global, order: &Order) -> Result<Numbers, AllocE
     Ok(origins)
 }
 
-/// Whether a record is told, and written before and not after.
+/// Whether a record is of a supported kind, and written before and not after.
 fn is_gone(file: &File, before: &Order, after: &Order, number: usize) -> bool
     requires number { IsNumberOf (length file.now.records) number }
     requires before { length before.now.places.items ≡ length file.now.records }
     requires after { length after.now.places.items ≡ length file.now.records }
     ensures { result ≡ is_gone file.now before.now.places.items after.now.places.items number }
 {
-    is_told(record_at(file, number).head.kind) && (before.has(number) && !after.has(number))
+    is_supported(record_at(file, number).head.kind) && (before.has(number) && !after.has(number))
 }
 
-/// The told records that are written before and not after.
+/// The records of a supported kind that are written before and not after.
 pub(crate) fn gone_numbers(
     alloc: Global,
     file: &File,
@@ -60,16 +60,17 @@ pub(crate) fn gone_numbers(
     Ok(gone)
 }
 
-/// Whether a record is told, changed and written.
+/// Whether a record is of a supported kind, changed and written.
 fn is_modified(file: &File, changed: &[bool], after: &Order, number: usize) -> bool
     requires number { IsNumberOf (length file.now.records) number }
     requires after { length after.now.places.items ≡ length file.now.records }
     ensures { result ≡ is_modified file.now changed.now after.now.places.items number }
 {
-    is_told(record_at(file, number).head.kind) && (is_marked(changed, number) && after.has(number))
+    is_supported(record_at(file, number).head.kind)
+        && (is_marked(changed, number) && after.has(number))
 }
 
-/// The told records that changed and are written, each with the number that it gets.
+/// The records of a supported kind that changed and are written, each with the number that it gets.
 pub(crate) fn modified_pairs(
     alloc: Global,
     file: &File,
