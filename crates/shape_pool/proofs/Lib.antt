@@ -1,0 +1,11 @@
+pub mod Lists
+pub mod RowLaws
+pub mod DepthLaws
+pub mod IdLaws
+pub mod SubtreeLaws
+pub mod HeldLaws
+pub mod LoadedLaws
+pub mod MakingLaws
+pub mod IndexLaws
+pub mod CallLaws
+pub mod HandingLaws
