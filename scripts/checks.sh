@@ -22,4 +22,12 @@ for folder in crates/*/; do
     grep -q "^$name\( [^:]*\)\?:" crates.txt || fail "crates/$name is not listed in crates.txt"
 done
 
+# The program that the gate built, on real files.
+program=$PWD/crates/brep_cli/out/brep_cli
+if [ -x "$program" ]; then
+    bash scripts/program.sh "$program" || fail 'the built program went wrong'
+else
+    echo 'checks: the program is not built: its runs are skipped' >&2
+fi
+
 exit "$failed"
