@@ -26,8 +26,6 @@ done
 program=$PWD/crates/brep_cli/out/brep_cli
 if [ -x "$program" ]; then
     bash scripts/program.sh "$program" || fail 'the built program went wrong'
-else
-    echo 'checks: the program is not built: its runs are skipped' >&2
 fi
 
 exit "$failed"
