@@ -22,6 +22,9 @@ for folder in crates/*/; do
     grep -q "^$name\( [^:]*\)\?:" crates.txt || fail "crates/$name is not listed in crates.txt"
 done
 
+# The program that makes version 1 of version 3.
+bash scripts/version-3.sh || fail 'from-version-3 went wrong'
+
 # The program that the gate built, on real files.
 program=$PWD/crates/brep_cli/out/brep_cli
 if [ -x "$program" ]; then
