@@ -25,6 +25,9 @@ done
 # The program that makes version 1 of version 3.
 bash scripts/version-3.sh || fail 'from-version-3 went wrong'
 
+# The program that draws a file's records.
+bash scripts/picture.sh || fail 'picture went wrong'
+
 # The program that the gate built, on real files.
 program=$PWD/crates/brep_cli/out/brep_cli
 if [ -x "$program" ]; then
