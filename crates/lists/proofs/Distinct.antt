@@ -7,7 +7,7 @@ use Rattle.std.proofs.lemmas.List.Elements.{Contains-append_left, Contains-appen
 use Rattle.lists.specs.Distinct.{IsDistinct}
 use Rattle.lists.proofs.Cases.{by_test}
 use Rattle.lists.proofs.Members.{Contains-here, Contains-there, Contains-cases, Contains-none, split_by}
-use Rattle.lists.proofs.Tests.{filter-of}
+use Rattle.lists.proofs.Tests.{Contains-filter_cases}
 
 pub IsDistinct-push : {X : Type 0} (xs : List X) (x : X) → IsDistinct xs → (Contains xs x → ⊥) → IsDistinct (xs ++ x ∷ [])
 IsDistinct-push [] x d h = (Contains-none x, tt)
@@ -19,7 +19,7 @@ IsDistinct-push (y ∷ xs) x d h = (
 pub IsDistinct-filter : {X : Type 0} (p : X → Bool) (xs : List X) → IsDistinct xs → IsDistinct (filter p xs)
 IsDistinct-filter p [] d = tt
 IsDistinct-filter p (y ∷ xs) d = by_test (p y)
-    (λ f. rw f ((λ m. d.0 (filter-of p xs y m).0), IsDistinct-filter p xs d.1))
+    (λ f. rw f ((λ m. d.0 (Contains-filter_cases p xs y m).0), IsDistinct-filter p xs d.1))
     (λ f. rw f (IsDistinct-filter p xs d.1))
 
 -- distinct things that all stand in a list are no more than it has

@@ -4,3 +4,5 @@ pub mod Places
 pub mod Each
 pub mod Tests
 pub mod Distinct
+pub mod Sameness
+pub mod Once

@@ -32,21 +32,21 @@ list_all-each p (y ∷ xs) e x m =
     elim (Contains-cases y x xs m) [ inl same ↦ subst (λ z. p z ≡ true) same parts.0 | inr k ↦ list_all-each p xs parts.1 x k ]
 
 -- ---- the things that pass
-pub filter-has : {X : Type 0} (p : X → Bool) (xs : List X) (x : X) → Contains xs x → p x ≡ true → Contains (filter p xs) x
-filter-has p [] x m e = absurd (Contains-none x m)
-filter-has p (y ∷ xs) x m e = elim (Contains-cases y x xs m) [
+pub Contains-filter : {X : Type 0} (p : X → Bool) (xs : List X) (x : X) → Contains xs x → p x ≡ true → Contains (filter p xs) x
+Contains-filter p [] x m e = absurd (Contains-none x m)
+Contains-filter p (y ∷ xs) x m e = elim (Contains-cases y x xs m) [
   | inl same ↦ (let f = subst (λ z. p z ≡ true) (sym same) e in subst (λ z. Contains (filter p (y ∷ xs)) z) same (rw f (Contains-here y (filter p xs))))
-  | inr k ↦ by_test (p y) (λ f. rw f (Contains-there y x (filter p xs) (filter-has p xs x k e))) (λ f. rw f (filter-has p xs x k e))
+  | inr k ↦ by_test (p y) (λ f. rw f (Contains-there y x (filter p xs) (Contains-filter p xs x k e))) (λ f. rw f (Contains-filter p xs x k e))
 ]
 
-pub filter-of : {X : Type 0} (p : X → Bool) (xs : List X) (x : X) → Contains (filter p xs) x → Contains xs x × (p x ≡ true)
-filter-of p [] x m = absurd (Contains-none x m)
-filter-of p (y ∷ xs) x m = by_test (p y)
+pub Contains-filter_cases : {X : Type 0} (p : X → Bool) (xs : List X) (x : X) → Contains (filter p xs) x → Contains xs x × (p x ≡ true)
+Contains-filter_cases p [] x m = absurd (Contains-none x m)
+Contains-filter_cases p (y ∷ xs) x m = by_test (p y)
     (λ f. elim (Contains-cases y x (filter p xs) (rw f at m)) [
       | inl same ↦ (subst (λ z. Contains (y ∷ xs) z) same (Contains-here y xs), subst (λ z. p z ≡ true) same f)
-      | inr k ↦ (let r = filter-of p xs x k in (Contains-there y x xs r.0, r.1))
+      | inr k ↦ (let r = Contains-filter_cases p xs x k in (Contains-there y x xs r.0, r.1))
     ])
-    (λ f. (let r = filter-of p xs x (rw f at m) in (Contains-there y x xs r.0, r.1)))
+    (λ f. (let r = Contains-filter_cases p xs x (rw f at m) in (Contains-there y x xs r.0, r.1)))
 
 -- ---- where a test passes first
 first-place : {X : Type 0} (test : X → Bool) (xs : List X) → list_any test xs ≡ true → position_or_len test xs < length xs
