@@ -4,17 +4,18 @@ use Rattle.std.proofs.lemmas.List.Sorted.{sum_by-IsPermutation}
 use Rattle.std.proofs.lemmas.List.Sums.{sum_by-cons}
 use Rattle.std.specs.Prelude.{◌+◌, ℕ, Bool, true, false, List, [], ◌∷◌, sum_by, Contains, if◌then◌else◌}
 use Rattle.std.specs.List.{list_any}
-use Rattle.graph_walks.specs.Walks.{IsDistinct}
-use Rattle.expansion_laws.specs.SlowMeasures.{each_once}
-use Rattle.expansion_laws.specs.StepMeasures.{Counts}
-use Rattle.expansion_laws.proofs.Members.{by_test, Contains-here, Contains-there, Contains-cases, Contains-none, list_any-contains, list_any-found, no_more}
-use Rattle.expansion_laws.proofs.EndLemmas.{once_or_never, count, one-itself, permuted, counted-same}
+use Rattle.lists.proofs.Sameness.{count, counted-same, once_or_never, one-itself, permuted}
+use Rattle.lists.specs.Distinct.{IsDistinct, Counts, each_once}
+use Rattle.lists.proofs.Tests.{list_any-contains, list_any-found}
+use Rattle.lists.proofs.Members.{Contains-cases, Contains-here, Contains-none, Contains-there}
+use Rattle.lists.proofs.Distinct.{length-le_from_distinct}
+use Rattle.lists.proofs.Cases.{by_test}
 
 -- two lists that have each thing of a fact once are as long
 pub counts-one : {X : Type 0} (P : X → Type 0) (m n : ℕ) → Counts P m → Counts P n → m ≡ n
 counts-one P m n a b =
-    let low = no_more a.0 b.0 a.1.0 (λ x k. (b.1.1 x).0 ((a.1.1 x).1 k)) in
-    let high = no_more b.0 a.0 b.1.0 (λ x k. (a.1.1 x).0 ((b.1.1 x).1 k)) in
+    let low = length-le_from_distinct a.0 b.0 a.1.0 (λ x k. (b.1.1 x).0 ((a.1.1 x).1 k)) in
+    let high = length-le_from_distinct b.0 a.0 b.1.0 (λ x k. (a.1.1 x).0 ((b.1.1 x).1 k)) in
     let e = a.2 in let f = b.2 in
     omega (arith, low, high, e, f)
 
