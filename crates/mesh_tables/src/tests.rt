@@ -7,7 +7,8 @@ use crate::{
     Polygons, PolygonsOn, laws,
 };
 use brep_tokens::{Decimals, Numbers, Progress, ReadStop, Token, TokenText};
-use entry_readers::{EntryList, EntryReader, Section};
+use entry_readers::{EntryReader, Section};
+use lists::ListOf;
 use std::alloc::Global;
 use std::test::Fail;
 
@@ -16,7 +17,7 @@ fn entries<R: EntryReader>(
     alloc: Global,
     due: u64,
     text: &str,
-) -> Result<Result<(EntryList<R::Entry>, u64), String>, Fail> {
+) -> Result<Result<(ListOf<R::Entry>, u64), String>, Fail> {
     if due == 0 {
         return Ok(Err(String::from_str(alloc, "none due")?));
     }
@@ -34,7 +35,7 @@ fn entries<R: EntryReader>(
         match section.take(&token) {
             Ok(Progress::More) => {}
             Ok(Progress::Whole) => {
-                return Ok(Ok((EntryList::from_vec(section.done()), offset)));
+                return Ok(Ok((ListOf::from_vec(section.done()), offset)));
             }
             Err(ReadStop::NoMemory) => {
                 return Ok(Err(String::from_str(alloc, "no memory")?));
