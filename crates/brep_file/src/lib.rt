@@ -16,4 +16,4 @@ pub use file_reader::FileReader;
 pub use marks::is_marked;
 pub use reader::read_file;
 pub use records::{Record, Records};
-pub use uses::{FileUse, FileUses};
+pub use uses::{FileUse, FileUses, keep_unmarked};
