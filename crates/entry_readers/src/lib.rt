@@ -5,7 +5,6 @@
 mod decimals_due;
 mod due;
 mod entry;
-mod entry_list;
 mod knots_due;
 pub mod laws;
 mod numbers_due;
@@ -17,7 +16,6 @@ mod tests;
 pub use decimals_due::DecimalsDue;
 pub use due::{decimal_due, fault_at, flag_due, number_due, ranged_due, word_due};
 pub use entry::EntryReader;
-pub use entry_list::EntryList;
 pub use knots_due::KnotsDue;
 pub use numbers_due::NumbersDue;
 pub use section::Section;
