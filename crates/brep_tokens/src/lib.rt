@@ -12,8 +12,8 @@ mod scanner;
 #[cfg(test)]
 mod tests;
 mod text;
+mod text_words;
 mod version;
-mod words;
 
 pub use decimal_form::decimal;
 pub use decimals::Decimals;

@@ -4,6 +4,7 @@
 mod command;
 /// The laws of script lines, as functions whose contracts state them.
 pub mod laws;
+mod line_words;
 mod lines;
 mod lists;
 mod parsing;
@@ -11,7 +12,6 @@ mod phrase;
 mod reading;
 #[cfg(test)]
 mod tests;
-mod words;
 mod writing;
 
 pub use command::{Command, LineFault, Sel, SignedName, Tgt};

@@ -2,7 +2,7 @@
 ghost use Rattle.std.specs.Prelude.{◌≡◌, ◌≤◌, ◌⊎◌};
 ghost use Rattle.tshape_data.specs.RepReading.{most_reps};
 
-use crate::{Bounds, EdgeRep, Flags, Head, HeadReader, Payload, PointRep};
+use crate::{EdgeRep, Flags, Head, HeadBounds, HeadReader, Payload, PointRep};
 use brep_tokens::{Decimals, Progress, ReadFault, ReadStop, Token, TokenText};
 use entry_readers::number_text;
 use orientation::kind_name;
@@ -115,10 +115,10 @@ const VERSION_2: &str = "
 ";
 
 /// Each table has another size, and so many representations stand before the record.
-fn bounds(reps: u64) -> Bounds
+fn bounds(reps: u64) -> HeadBounds
     ensures { result.reps ≤ most_reps }
 {
-    Bounds {
+    HeadBounds {
         locations: 2,
         curve2s: 6,
         curves: 3,
