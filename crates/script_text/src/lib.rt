@@ -9,8 +9,6 @@ mod lists;
 mod parsing;
 mod phrase;
 mod reading;
-#[cfg(test)]
-mod tests;
 mod words;
 mod writing;
 
