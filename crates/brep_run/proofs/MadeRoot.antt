@@ -8,7 +8,7 @@ use Rattle.brep_tokens.specs.Written.{lines_text}
 use Rattle.orientation.specs.declared.turn.Turn.TheVariants.{Forward}
 use Rattle.location_table.specs.Words.{datums_of}
 use Rattle.written_locations.specs.Further.{further_words}
-use Rattle.written_locations.proofs.Meeting.{datums-few}
+use Rattle.written_locations.proofs.Adding.{datums-few}
 use Rattle.written_locations.proofs.Sections.{length-written}
 use Rattle.expansion_laws.specs.Trees.{Tree, uses, tree_of, origin}
 use Rattle.expansion_laws.specs.Equality.{tree_eq}

@@ -10,8 +10,8 @@ pub mod laws;
 mod numbers;
 mod scanner;
 mod text;
+mod text_words;
 mod version;
-mod words;
 
 pub use decimal_form::decimal;
 pub use decimals::Decimals;

@@ -81,11 +81,7 @@ fn run_counted<L: Ledger>(
 }
 
 /// Runs the command of the words over the desk.
-pub fn ran(
-    alloc: Global,
-    words: &[&str],
-    desk: &mut MemoryDesk,
-) -> Result<Outcome, AllocError> {
+pub fn ran(alloc: Global, words: &[&str], desk: &mut MemoryDesk) -> Result<Outcome, AllocError> {
     let words = command_words(alloc, words)?;
     Ok(run_counted::<Brand>(alloc, &words, desk, Blank::new(1)))
 }

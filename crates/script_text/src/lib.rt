@@ -4,12 +4,12 @@
 mod command;
 /// The laws of script lines, as functions whose contracts state them.
 pub mod laws;
+mod line_words;
 mod lines;
 mod lists;
 mod parsing;
 mod phrase;
 mod reading;
-mod words;
 mod writing;
 
 pub use command::{Command, LineFault, Sel, SignedName, Tgt};

@@ -7,7 +7,7 @@ use entry_readers::number_text;
 use orientation::kind_name;
 use std::alloc::Global;
 use std::test::Fail;
-use tshape_data::{Bounds, EdgeRep, Flags, Head, HeadReader, Payload, PointRep};
+use tshape_data::{EdgeRep, Flags, Head, HeadBounds, HeadReader, Payload, PointRep};
 
 /// Heads that read alike in both versions: the tokens; how many they are, the kind, the flags that are set, and the data.
 const ALIKE: &str = "
@@ -115,10 +115,10 @@ const VERSION_2: &str = "
 ";
 
 /// Each table has another size, and so many representations stand before the record.
-fn bounds(reps: u64) -> Bounds
+fn bounds(reps: u64) -> HeadBounds
     ensures { result.reps ≤ most_reps }
 {
-    Bounds {
+    HeadBounds {
         locations: 2,
         curve2s: 6,
         curves: 3,

@@ -7,7 +7,7 @@ ghost use Rattle.std.specs.Prelude.{◌≡◌, ◌≤◌, length};
 
 use crate::file::File;
 use crate::reader::pull::{heading, locations, records, root, section};
-use crate::reader::state::Bounds;
+use crate::reader::state::RecordBounds;
 use crate::records::Records;
 use crate::uses::FileUse;
 use brep_tokens::{ReadStop, Scanner};
@@ -18,7 +18,7 @@ use mesh_tables::{MeshReader, Polygon3Reader, PolygonOnMeshReader};
 use orientation::Turn;
 use std::alloc::Global;
 use surface_tables::{SurfaceReader, Surfaces};
-use tshape_data::Bounds as Tables;
+use tshape_data::HeadBounds;
 
 /// A file of which nothing was read but its version.
 pub(crate) fn begun_file(alloc: Global, version: u8) -> File
@@ -59,11 +59,11 @@ fn with_root(s: &mut Scanner, file: File, records: u32) -> Result<File, ReadStop
 }
 
 /// How many entries each table has.
-fn sizes(file: &File) -> Tables
+fn sizes(file: &File) -> HeadBounds
     requires { IsPartRead file.now }
     ensures { result ≡ sizes_of file.now }
 {
-    Tables {
+    HeadBounds {
         locations: file.locations.len(),
         curve2s: file.curve2s.len() as u32,
         curves: file.curves.len() as u32,
@@ -82,7 +82,7 @@ fn with_counted(alloc: Global, s: &mut Scanner, file: File, count: u32) -> Resul
     ensures { Gives (λ f. f) (from_counted file count) s.old s.new result }
 {
     let mut file = file;
-    let bounds = Bounds {
+    let bounds = RecordBounds {
         tables: sizes(&file),
         version: file.version,
         records: count,
