@@ -7,8 +7,6 @@ pub mod laws;
 mod marks;
 mod reader;
 mod records;
-#[cfg(test)]
-mod tests;
 mod uses;
 
 pub use file::File;

@@ -15,8 +15,6 @@ mod reader3;
 mod spell2;
 mod spell3;
 mod stage;
-#[cfg(test)]
-mod tests;
 
 pub use curve2::Curve2;
 pub use curve3::Curve3;

@@ -10,8 +10,6 @@ pub mod laws;
 mod numbers_due;
 mod section;
 mod spell;
-#[cfg(test)]
-mod tests;
 
 pub use decimals_due::DecimalsDue;
 pub use due::{decimal_due, fault_at, flag_due, number_due, ranged_due, word_due};

@@ -9,8 +9,6 @@ mod polygon_on_reader;
 mod polygon_reader;
 mod sections;
 mod spell;
-#[cfg(test)]
-mod tests;
 
 pub use entries::{Mesh, Polygon3, PolygonOnMesh};
 pub use entry_lists::{Meshes, Polygons, PolygonsOn};

@@ -10,8 +10,6 @@ mod name_lists;
 mod parsing;
 mod phrase;
 mod reading;
-#[cfg(test)]
-mod tests;
 mod writing;
 
 pub use command::{Command, LineFault, Sel, SignedName, Tgt};
