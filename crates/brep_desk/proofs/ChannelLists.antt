@@ -4,7 +4,7 @@ use Rattle.std.proofs.Math.Path.{fun_ext}
 use Rattle.brep_desk.specs.Shown.{closed, ChangesOnly}
 use Rattle.brep_desk.specs.declared.channels.Channel.{Channel}
 use Rattle.brep_desk.specs.declared.channels.Channel.TheVariants as channels
-use Rattle.brep_desk.specs.Kept.{of_channel, left_of, use_of, left_in, use_in, IsNotReading, IsNotWriting}
+use Rattle.brep_desk.specs.Kept.{of_channel, left_of, state_of, left_in, state_in, IsNotReading, IsNotWriting}
 
 pub of_channel-past : {A : Type 0} (f : Channel → A) (d : A) (cs : List Channel) (k : ℕ) → length cs ≤ k → of_channel f d cs k ≡ d
 of_channel-past f d [] k le = refl
@@ -71,26 +71,26 @@ left_in-read cs k name bytes at count lt is =
     let value : drop (at + count) bytes ≡ drop count (left_in cs k) = sym (drop-drop count at bytes) ∙ ap (λ (x : List ℕ). drop count x) (sym is) in
     subst (λ (v : List ℕ). ChangesOnly (left_in cs) (left_in (set cs k (channels.Reading name bytes (at + count)))) k v) value (of_channel-set left_of [] cs k _ lt)
 
-not_reading : (c : Channel) → ((name bytes : List ℕ) (at : ℕ) → c ≡ channels.Reading name bytes at → ⊥) → IsNotReading (use_of c)
+not_reading : (c : Channel) → ((name bytes : List ℕ) (at : ℕ) → c ≡ channels.Reading name bytes at → ⊥) → IsNotReading (state_of c)
 not_reading channels.Closed no_reading = tt
 not_reading (channels.Reading name bytes at) no_reading = no_reading name bytes at refl
 not_reading (channels.Writing name) no_reading = tt
 
-pub IsNotReading-get : (cs : List Channel) (k : ℕ) (x : Channel) → k < length cs → ((name bytes : List ℕ) (at : ℕ) → get_or cs k x ≡ channels.Reading name bytes at → ⊥) → IsNotReading (use_in cs k)
-IsNotReading-get cs k x lt other = subst IsNotReading (sym (get_at use_of closed cs k x lt)) (not_reading (get_or cs k x) other)
+pub IsNotReading-get : (cs : List Channel) (k : ℕ) (x : Channel) → k < length cs → ((name bytes : List ℕ) (at : ℕ) → get_or cs k x ≡ channels.Reading name bytes at → ⊥) → IsNotReading (state_in cs k)
+IsNotReading-get cs k x lt other = subst IsNotReading (sym (get_at state_of closed cs k x lt)) (not_reading (get_or cs k x) other)
 
-not_writing : (c : Channel) → ((name : List ℕ) → c ≡ channels.Writing name → ⊥) → IsNotWriting (use_of c)
+not_writing : (c : Channel) → ((name : List ℕ) → c ≡ channels.Writing name → ⊥) → IsNotWriting (state_of c)
 not_writing channels.Closed no_writing = tt
 not_writing (channels.Reading name bytes at) no_writing = tt
 not_writing (channels.Writing name) no_writing = no_writing name refl
 
-pub IsNotWriting-at : (cs : List Channel) (k : ℕ) (c : Channel) → k < length cs → c ≡ get_or cs k c → ((name : List ℕ) → c ≡ channels.Writing name → ⊥) → IsNotWriting (use_in cs k)
-IsNotWriting-at cs k c lt got other = subst IsNotWriting (sym (of_channel-at use_of closed cs k c c lt got refl)) (not_writing c other)
+pub IsNotWriting-at : (cs : List Channel) (k : ℕ) (c : Channel) → k < length cs → c ≡ get_or cs k c → ((name : List ℕ) → c ≡ channels.Writing name → ⊥) → IsNotWriting (state_in cs k)
+IsNotWriting-at cs k c lt got other = subst IsNotWriting (sym (of_channel-at state_of closed cs k c c lt got refl)) (not_writing c other)
 
-pub use_of-open : (c : Channel) → (c ≡ channels.Closed → ⊥) → use_of c ≢ closed
-use_of-open channels.Closed other is = other refl
-use_of-open (channels.Reading name bytes at) other is = absurd cc
-use_of-open (channels.Writing name) other is = absurd cc
+pub state_of-open : (c : Channel) → (c ≡ channels.Closed → ⊥) → state_of c ≢ closed
+state_of-open channels.Closed other is = other refl
+state_of-open (channels.Reading name bytes at) other is = absurd cc
+state_of-open (channels.Writing name) other is = absurd cc
 
 pub of_channel-closed : {A : Type 0} (f : Channel → A) (d : A) (cs : List Channel) (i : ℕ) (c : Channel) → i < length cs → c ≡ channels.Closed → ChangesOnly (of_channel f d cs) (of_channel f d (set cs i c)) i (f channels.Closed)
 of_channel-closed f d cs i c lt is = subst (λ (x : Channel). ChangesOnly (of_channel f d cs) (of_channel f d (set cs i c)) i (f x)) is (of_channel-set f d cs i c lt)

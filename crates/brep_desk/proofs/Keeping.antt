@@ -5,7 +5,7 @@ use Rattle.brep_desk.specs.Calls.{BeginsReading, BeginsWriting, Ends}
 use Rattle.brep_desk.specs.declared.outputs.Output.{Output}
 use Rattle.brep_desk.specs.declared.channels.Channel.{Channel}
 use Rattle.brep_desk.specs.declared.channels.Channel.TheVariants as channels
-use Rattle.brep_desk.specs.Kept.{left_of, use_of, held_in, written_in, ended_in, shown_by}
+use Rattle.brep_desk.specs.Kept.{left_of, state_of, held_in, written_in, ended_in, shown_by}
 use Rattle.brep_desk.proofs.ChannelLists.{of_channel-pushed, of_channel-pushed_kept}
 
 pub IfOk-by : {T E : Type 0} {P R : T → Type 0} {Q : Type 0} (r : Result T E) → IfOk r P → OnOk r Q → ((x : T) → P x → Q → R x) → IfOk r R
@@ -20,7 +20,7 @@ BeginsReading-pushed fs os cs new c name bytes k before after holds opens is at 
       held = refl;
       written = refl;
       ended = refl;
-      opened = λ _. of_channel-pushed use_of closed cs new (channels.Reading name bytes 0) k pushed at;
+      opened = λ _. of_channel-pushed state_of closed cs new (channels.Reading name bytes 0) k pushed at;
       left = λ _. left.others;
       gives = λ _. holds ∙ ap Some (sym left.here);
     }
@@ -31,7 +31,7 @@ BeginsWriting-pushed fs os outs cs new name own k before after written ended own
   left = of_channel-pushed_kept left_of [] cs new (channels.Writing own) is refl;
   written = λ _. written;
   ended = λ _. ended;
-  opened = λ _. rw (← owns) (of_channel-pushed use_of closed cs new (channels.Writing own) k is at);
+  opened = λ _. rw (← owns) (of_channel-pushed state_of closed cs new (channels.Writing own) k is at);
 }
 
 pub refusal_is : {T E : Type 0} (r : Result T E) (e f : E) → r ≡ Err e → IsErrOf r f → e ≡ f

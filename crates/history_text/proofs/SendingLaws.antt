@@ -5,16 +5,16 @@ use Rattle.std.proofs.lemmas.Bool.{cases_lt}
 use Rattle.std.proofs.lemmas.List.{append-nil, length-append, take-append-le, take_more, take_all, map-append}
 use Rattle.std.proofs.lemmas.Grind.{flat_map-append}
 use Rattle.std.specs.Prelude.{IfErr, IsErrAnd}
-use Rattle.brep_desk.specs.Shown.{Use, writing, Shown, Tells, ChangesOnly}
+use Rattle.brep_desk.specs.Shown.{ChannelState, writing, Shown, Tells, ChangesOnly}
 use Rattle.brep_desk.specs.Strays.{KeepsStrays}
-use Rattle.brep_desk.specs.Whole.{Appended}
-use Rattle.brep_desk.specs.declared.whole.WriteStop.{WriteStop}
+use Rattle.brep_desk.specs.Transfers.{Appended}
+use Rattle.brep_desk.specs.declared.transfers.WriteStop.{WriteStop}
 use Rattle.brep_tokens.specs.Written.{line_text, lines_text}
 use Rattle.history_text.proofs.LineLaws.{more, rest}
 use Rattle.history_text.specs.Sending.{Waiting, counted, KeepsStraysIfOpen, Sent, Stopped, Sends}
 
-same_channel : (a b : Shown) (c : ℕ) (u : Use) → b.opened ≡ a.opened → a.opened c ≡ u → b.opened c ≡ u
-same_channel a b c u same is = ap (λ (f : ℕ → Use). f c) same ∙ is
+same_channel : (a b : Shown) (c : ℕ) (u : ChannelState) → b.opened ≡ a.opened → a.opened c ≡ u → b.opened c ≡ u
+same_channel a b c u same is = ap (λ (f : ℕ → ChannelState). f c) same ∙ is
 
 take_past : (x y : List ℕ) (n : ℕ) → take (length x + n) (x ++ y) ≡ x ++ take n y
 take_past [] y n = let e : 0 + n ≡ n = omega arith in ap (λ k. take k y) e

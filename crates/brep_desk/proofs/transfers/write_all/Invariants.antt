@@ -1,8 +1,8 @@
 use Rattle.std.proofs.Common.{◌≡◌, List, ℕ, length, ◌-◌, ◌≤◌}
 use Rattle.brep_desk.specs.Shown.{writing}
 use Rattle.brep_desk.specs.Strays.{KeepsStrays}
-use Rattle.brep_desk.specs.Whole.{Appended}
-use Rattle.brep_desk.proofs.whole.write_all.Given as goal
+use Rattle.brep_desk.specs.Transfers.{Appended}
+use Rattle.brep_desk.proofs.transfers.write_all.Given as goal
 
 abbrev pub invariant-loop-taken : goal.invariant-loop-taken
 invariant-loop-taken g l = record {

@@ -1,7 +1,7 @@
 use Rattle.std.proofs.Common.{arith, rules}
 use Rattle.std.proofs.lemmas.List.{take_rest}
 use Rattle.brep_desk.proofs.Pieces.{Appended-then, Appended-kept, Appended-whole}
-use Rattle.brep_desk.proofs.whole.write_all.Goals as goal
+use Rattle.brep_desk.proofs.transfers.write_all.Goals as goal
 
 pub loop-taken-preserved : goal.loop-taken-preserved
 loop-taken-preserved g c = record {

@@ -1,8 +1,8 @@
 use Rattle.std.proofs.Common.{◌≡◌, ◌+◌, ◌-◌, ◌≤◌, IsTrue, List, ℕ, ◌++◌, length}
 use Rattle.brep_desk.specs.Shown.{reading}
 use Rattle.brep_desk.specs.Strays.{KeepsStrays}
-use Rattle.brep_desk.specs.Whole.{NothingWritten}
-use Rattle.brep_desk.proofs.whole.read_rest.Given as goal
+use Rattle.brep_desk.specs.Transfers.{NothingWritten}
+use Rattle.brep_desk.proofs.transfers.read_rest.Given as goal
 
 abbrev pub invariant-pieces : goal.invariant-pieces
 invariant-pieces g l = record {
