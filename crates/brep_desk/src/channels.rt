@@ -8,7 +8,7 @@ use crate::counts::Refusal;
 use crate::names::{Bytes, NameText};
 
 /// What a channel is open for.
-#[derive(Clone, Copy, Debug, PartialEq, Eq)]
+#[derive(Clone, Copy)]
 pub(crate) enum State {
     Closed,
     Reading,
@@ -86,12 +86,14 @@ pub(crate) fn read(
         return None;
     }
     let channel = &mut channels[i];
-    if channel.state != State::Reading {
-        return None;
+    match channel.state {
+        State::Reading => {
+            let count = copy_piece(rest(channel.bytes.bytes(), channel.at), buf, piece);
+            channel.at += count;
+            Some(count)
+        }
+        State::Closed | State::Writing => None,
     }
-    let count = copy_piece(rest(channel.bytes.bytes(), channel.at), buf, piece);
-    channel.at += count;
-    Some(count)
 }
 
 /// The name that a channel is open for writing to.
@@ -104,10 +106,10 @@ pub(crate) fn written_name(channels: &[Channel], number: u64) -> Option<&str>
         return None;
     }
     let channel = &channels[i];
-    if channel.state != State::Writing {
-        return None;
+    match channel.state {
+        State::Writing => Some(channel.name.text()),
+        State::Closed | State::Reading => None,
     }
-    Some(channel.name.text())
 }
 
 /// Closes a channel. False where it is not open.
@@ -122,9 +124,11 @@ pub(crate) fn close(channels: &mut [Channel], number: u64) -> bool
         return false;
     }
     let channel = &mut channels[i];
-    if channel.state == State::Closed {
-        return false;
+    match channel.state {
+        State::Closed => false,
+        State::Reading | State::Writing => {
+            channel.state = State::Closed;
+            true
+        }
     }
-    channel.state = State::Closed;
-    true
 }

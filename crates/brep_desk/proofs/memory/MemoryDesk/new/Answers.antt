@@ -14,6 +14,7 @@ returns c = record {
   ended = λ name. ap (λ (os : List Output). ended_in os name) c.new.ensures.items;
   opened = λ k. ap (λ (cs : List Channel). state_in cs k) c.new-2.ensures.items;
   strays = refl;
+  writing_calls = refl;
   channels = ap length c.new-2.ensures.items;
   calls = refl;
   faults = refl;
