@@ -13,7 +13,7 @@ returns-in-Closed-clause-was_open c = (λ no _. absurd cc, λ is_open. absurd (i
 
 pub returns-in-Reading : goal.returns-in-Reading
 returns-in-Reading c =
-    let other : (get_or c.args.channels.now c.args.number c.index-channels-i.result).state ≢ Closed = λ e. elim c.in-Reading.is [ | inl r ↦ absurd cc | inr w ↦ absurd cc ] in
+    let other : (get_or c.args.channels.now c.args.number c.index-channels-i.result).state ≢ Closed = λ e. elim c.in-Reading.is [ inl r ↦ absurd cc | inr w ↦ absurd cc ] in
     record {
       was_open = (λ _ e. state_over-open _ _ other (sym (state_in-get _ _ _ _ c.if-i-channels.false refl) ∙ e), λ _. refl);
       unchanged = tt;

@@ -32,7 +32,7 @@ returns-in-Reading-clause-given c =
 
 pub returns-in-Closed : goal.returns-in-Closed
 returns-in-Closed c =
-    let other : (get_or c.args.channels.now c.args.number c.index-channels-i.result).state ≢ Reading = λ e. elim c.in-Closed.is [ | inl r ↦ absurd cc | inr w ↦ absurd cc ] in
+    let other : (get_or c.args.channels.now c.args.number c.index-channels-i.result).state ≢ Reading = λ e. elim c.in-Closed.is [ inl r ↦ absurd cc | inr w ↦ absurd cc ] in
     record {
       none = (set-get_or _ _ _, IsNotReading-get _ _ _ c.if-i-channels.false other);
       reading = tt;

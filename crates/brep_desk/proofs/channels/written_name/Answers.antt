@@ -13,5 +13,5 @@ returns-in-Writing-clause-some c = state_in-at _ _ _ Writing c.if-i-channels.fal
 
 pub returns-in-Closed : goal.returns-in-Closed
 returns-in-Closed c =
-    let other : c.index-channels-i.result.state ≢ Writing = λ e. elim c.in-Closed.is [ | inl r ↦ absurd cc | inr w ↦ absurd cc ] in
+    let other : c.index-channels-i.result.state ≢ Writing = λ e. elim c.in-Closed.is [ inl r ↦ absurd cc | inr w ↦ absurd cc ] in
     record { some = tt; none = IsNotWriting-at _ _ _ c.if-i-channels.false c.index-channels-i.is other }
