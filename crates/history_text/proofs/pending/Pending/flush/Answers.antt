@@ -5,4 +5,4 @@ use Rattle.history_text.proofs.pending.Pending.flush.Goals as goal
 
 pub returns-in-Err-clause-sends : goal.returns-in-Err-clause-sends
 returns-in-Err-clause-sends g c =
-    Stopped-gone _ _ _ _ _ _ c.in-Err.stop.taken _ c.in-Err.ensures.part (c.as_slice.ensures.value ∙ ap (λ (w : Waiting). w.bytes) c.self.view_is) c.in-Err.ensures.stops_early (search rules) c.in-Err.ensures.strays
+    Stopped-gone _ _ _ _ _ _ c.in-Err.stop.taken _ c.in-Err.ensures.part (c.as_slice.ensures.value ∙ ap (λ (w : Waiting). w.bytes) c.self.view_is) c.in-Err.ensures.stops_early (search rules) c.in-Err.ensures.strays c.in-Err.ensures.calls
