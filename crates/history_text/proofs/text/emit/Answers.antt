@@ -25,7 +25,7 @@ pub returns-in_err-put_history-clause-writing_calls : goal.returns-in_err-put_hi
 returns-in_err-put_history-clause-writing_calls g c = c.in_err-put_history.ensures.sends.calls
 
 pub returns-in_err-flush-clause-writing_calls : goal.returns-in_err-flush-clause-writing_calls
-returns-in_err-flush-clause-writing_calls g c = later_rose _ (g.D.Desk.shows c.args.desk.now) (g.D.Desk.shows c.put_history.new.desk) (g.D.Desk.shows c.flush.new.desk) c.in_ok-put_history.ensures.sends.writing_calls c.in_err-flush.ensures.sends.calls
+returns-in_err-flush-clause-writing_calls g c = later_rose g.D.Desk.tells (g.D.Desk.shows c.args.desk.now) (g.D.Desk.shows c.put_history.new.desk) (g.D.Desk.shows c.flush.new.desk) c.in_ok-put_history.ensures.sends.writing_calls c.in_err-flush.ensures.sends.calls
 
 pub returns-clause-writing_calls : goal.returns-clause-writing_calls
 returns-clause-writing_calls g c =

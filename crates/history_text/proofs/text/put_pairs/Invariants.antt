@@ -1,5 +1,4 @@
 use Rattle.std.proofs.Common.{◌≡◌, ◌≤◌, ◌∷◌, [], ◌++◌, ◌-◌, length, take, map}
-use Rattle.std.specs.Prelude.{codes}
 use Rattle.std.specs.Fmt.{decimal}
 use Rattle.brep_tokens.specs.Written.{line_text, lines_text}
 use Rattle.history_text.specs.HistoryText.{pair_words}

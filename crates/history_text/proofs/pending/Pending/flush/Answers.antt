@@ -1,4 +1,4 @@
-use Rattle.std.proofs.Common.{ap, sym, ◌∙◌, List, ℕ, rules}
+use Rattle.std.proofs.Common.{ap, ◌∙◌, rules}
 use Rattle.history_text.specs.Sending.{Waiting}
 use Rattle.history_text.proofs.SendingLaws.{Stopped-gone}
 use Rattle.history_text.proofs.pending.Pending.flush.Goals as goal
