@@ -1,5 +1,5 @@
 -- What a whole read and a whole write leave.
-use Rattle.std.specs.Prelude.{◌≡◌, ℕ, ◌<◌, ◌≤◌, IsTrue, List, ◌++◌, length, take, Some, ◌⊎◌}
+use Rattle.std.specs.Prelude.{◌≡◌, ◌≢◌, ℕ, ◌<◌, ◌≤◌, IsTrue, List, ◌++◌, length, take, Some, ◌⊎◌}
 use Rattle.brep_desk.specs.Shown.{closed, writing, Shown, Tells, ChangesOnly}
 
 -- The first `taken` bytes of a text were appended under the channel's name, and nothing else changed.
@@ -30,3 +30,13 @@ IsLonger t old name limit = IsTrue t.held → (bytes : List ℕ) × (old.held na
 -- what is left of an input is what was left of it, without at most so many bytes at its front
 abbrev pub TakesAtMost : ℕ → List ℕ → List ℕ → Type 0
 TakesAtMost most old new = (bytes : List ℕ) × (old ≡ bytes ++ new) × (length bytes ≤ most)
+
+-- Of the name at most so many bytes were taken, over one channel; what is left of every other stays.
+pub record TakenFrom (t : Tells) (old new : Shown) (name : List ℕ) (most : ℕ) : Type 0 where
+  pub channel : ℕ
+  pub others : (k : ℕ) → k ≢ channel → new.left k ≡ old.left k
+  pub taken : IsTrue t.held → (bytes : List ℕ) × (old.held name ≡ Some bytes) × TakesAtMost most bytes (new.left channel)
+
+-- where it is told what is left: nothing was taken, or at most so many bytes of the name
+abbrev pub TakesOfName : Tells → Shown → Shown → List ℕ → ℕ → Type 0
+TakesOfName t old new name most = IsTrue t.left → (new.left ≡ old.left) ⊎ TakenFrom t old new name most

@@ -1,6 +1,6 @@
 use Rattle.std.proofs.Common.{◌+◌, ◌≤◌, length, rules}
 use Rattle.brep_desk.proofs.Pieces.{TakesAtMost-piece}
-use Rattle.brep_desk.proofs.whole.read_rest.Goals as goal
+use Rattle.brep_desk.proofs.transfers.read_rest.Goals as goal
 
 pub returns-then-is_err-clause-takes : goal.returns-then-is_err-clause-takes
 returns-then-is_err-clause-takes g c told =
