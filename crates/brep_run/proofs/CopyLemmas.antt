@@ -6,6 +6,8 @@ use Rattle.std.specs.Option.{option_map_or}
 use Rattle.std.proofs.lemmas.List.{length-map}
 use Rattle.std.proofs.lemmas.List.Elements.{All-map, All-contains, All-weaker, Contains-append_cases}
 use Rattle.std.proofs.lemmas.Option.{same_Some}
+use Rattle.lists.proofs.Places.{at_place}
+use Rattle.lists.proofs.Members.{Contains-cases, Contains-flat_map_cases, Contains-map_cases, Contains-none}
 use Rattle.orientation.specs.Kinds.{IsBelow}
 use Rattle.location_words.specs.declared.pair.Pair.{Pair}
 use Rattle.location_table.specs.Laws.{PlacesHaveWords}
@@ -24,7 +26,6 @@ use Rattle.expansion_laws.specs.Written.{flat}
 use Rattle.expansion_laws.specs.Fewest.{NoFileHasFewer}
 use Rattle.expansion_laws.specs.Walk.{RecordsAreTrees}
 use Rattle.expansion_laws.specs.Written.{IsWritten}
-use Rattle.expansion_laws.proofs.Members.{Contains-map_cases, Contains-flat_map_cases, Contains-cases, Contains-none, at_place}
 use Rattle.tshape_data.specs.Laws.{RenumberingKeepsParts}
 use Rattle.tshape_data.specs.Locations.{data_locations}
 use Rattle.brep_file.specs.declared.uses.FileUse.{FileUse}

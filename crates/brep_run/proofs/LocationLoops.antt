@@ -9,6 +9,8 @@ use Rattle.std.proofs.Math.Seq.{take-suc}
 use Rattle.std.proofs.lemmas.Grind.{flat_map-append}
 use Rattle.std.proofs.lemmas.List.{append_assoc, append-nil, map-append}
 use Rattle.std.proofs.lemmas.List.Elements.{All-from_recursion, All-contains_itself, All-weaker, Contains-get_or, Contains-append_left, Contains-append_right}
+use Rattle.lists.proofs.Places.{take-at}
+use Rattle.lists.proofs.Members.{Contains-flat_map, Contains-map}
 use Rattle.brep_tokens.specs.Written.{line_text, lines_text}
 use Rattle.entry_readers.specs.Spelled.{AreShort}
 use Rattle.location_words.specs.declared.pair.Pair.{Pair}
@@ -22,7 +24,6 @@ use Rattle.written_locations.specs.declared.written.WrittenLocations.{WrittenLoc
 use Rattle.written_locations.specs.Added.{further_of, IsAdded, IsNumbering, Adds}
 use Rattle.written_locations.proofs.Adding.{datums-few, few-further, adds-more}
 use Rattle.expansion_laws.specs.Expansion.{IsNumberOf}
-use Rattle.expansion_laws.proofs.Members.{Contains-flat_map, Contains-map, take-at}
 use Rattle.curve_tables.specs.Spelling.{spelling2, spelling3}
 use Rattle.mesh_tables.specs.Spelling.{spell_mesh, spell_polygon, spell_polygon_on}
 use Rattle.surface_tables.specs.Spelling.{spell_surface}

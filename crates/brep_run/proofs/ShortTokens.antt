@@ -8,6 +8,8 @@ use Rattle.std.proofs.lemmas.Fmt.{length-decimal-le}
 use Rattle.std.proofs.lemmas.Grind.{flat_map-append}
 use Rattle.std.proofs.lemmas.List.Elements.{recursion_from_All, All-weaker}
 use Rattle.std.proofs.lemmas.Option.{slice_get-get_or}
+use Rattle.lists.proofs.Places.{Contains-at}
+use Rattle.lists.proofs.Members.{Contains-cases, Contains-here, Contains-none, Contains-there}
 use Rattle.orientation.specs.declared.kind.Kind.{Kind}
 use Rattle.orientation.specs.declared.kind.Kind.TheVariants.{Ve, Ed, Wi, Fa, Sh, So, CS, Co}
 use Rattle.orientation.specs.Kinds.{name_of}
@@ -21,7 +23,6 @@ use Rattle.location_table.specs.Written.{IsOver, IsWordOver, product_of, written
 use Rattle.expansion_laws.specs.Trees.{Tree, origin}
 use Rattle.expansion_laws.specs.Equality.{tree_eq}
 use Rattle.expansion_laws.specs.Expansion.{IsNumberOf}
-use Rattle.expansion_laws.proofs.Members.{Contains-at, Contains-here, Contains-there, Contains-cases, Contains-none}
 use Rattle.tshape_data.specs.Flags.{spell_flags}
 use Rattle.tshape_data.specs.Laws.{RenumberingKeepsParts}
 use Rattle.tshape_data.specs.Parts.{Part, token, entry, located, payload_parts}

@@ -4,13 +4,14 @@ use Rattle.std.specs.Prelude.{ℕ, Option, Some, List, [], ◌∷◌, map, lengt
 use Rattle.std.specs.List.{flat_map}
 use Rattle.std.specs.Option.{option_map_or}
 use Rattle.std.proofs.lemmas.List.{length-map}
+use Rattle.lists.proofs.Places.{Contains-at}
+use Rattle.lists.proofs.Members.{Contains-here, Contains-there}
 use Rattle.expansion_laws.specs.Trees.{Tree, Use, a_single, uses, origin}
 use Rattle.expansion_laws.specs.Measures.{subtrees}
 use Rattle.expansion_laws.specs.Expansion.{IsNumberOf, tree_of_number, expansion}
 use Rattle.expansion_laws.specs.Sharing.{relabelled, relabelled_use, with_origins, use_with_origins, IsShared}
 use Rattle.expansion_laws.specs.Written.{flat, number_in, numbered, records_of, origins_of, IsWritten}
 use Rattle.expansion_laws.specs.Walk.{RecordsAreTrees}
-use Rattle.expansion_laws.proofs.Members.{Contains-at, Contains-here, Contains-there}
 use Rattle.expansion_laws.proofs.Relabelling.{relabelled-twice, relabelled-same}
 use Rattle.tshape_data.specs.Laws.{RenumberingKeepsParts}
 use Rattle.tshape_data.specs.Parts.{Part, token, entry, located, payload_parts}

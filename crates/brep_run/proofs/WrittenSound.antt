@@ -6,6 +6,8 @@ use Rattle.std.specs.Option.{option_map_or}
 use Rattle.std.proofs.lemmas.List.{length-map}
 use Rattle.std.proofs.lemmas.List.Elements.{All-map, All-weaker, All-contains, All-contains_itself, Contains-append_left, Contains-append_right, Contains-append_cases}
 use Rattle.std.proofs.lemmas.Option.{same_Some, slice_get_within}
+use Rattle.lists.proofs.Places.{Contains-at, at_place}
+use Rattle.lists.proofs.Members.{Contains-cases, Contains-flat_map, Contains-flat_map_cases, Contains-here, Contains-map, Contains-map_cases, Contains-none}
 use Rattle.orientation.specs.Kinds.{IsBelow}
 use Rattle.location_words.specs.declared.pair.Pair.{Pair}
 use Rattle.location_table.specs.Laws.{PlacesHaveWords, WrittenIsHeld}
@@ -21,7 +23,6 @@ use Rattle.expansion_laws.specs.Equality.{tree_eq}
 use Rattle.expansion_laws.specs.Measures.{depth}
 use Rattle.expansion_laws.specs.Expansion.{NumberedUse, IsNumberOf, tree_of_number}
 use Rattle.expansion_laws.specs.Written.{flat, number_in, numbered, records_of, IsWritten}
-use Rattle.expansion_laws.proofs.Members.{Contains-at, Contains-map, Contains-map_cases, Contains-flat_map, Contains-flat_map_cases, Contains-cases, Contains-here, Contains-none, at_place}
 use Rattle.expansion_laws.proofs.Subtrees.{subtrees-itself, subtrees-use, subtrees-onward}
 use Rattle.tshape_data.specs.Laws.{RenumberingKeepsParts}
 use Rattle.tshape_data.specs.Locations.{data_locations}

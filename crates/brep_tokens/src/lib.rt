@@ -9,8 +9,6 @@ mod forms;
 pub mod laws;
 mod numbers;
 mod scanner;
-#[cfg(test)]
-mod tests;
 mod text;
 mod text_words;
 mod version;

@@ -6,16 +6,14 @@ mod command;
 pub mod laws;
 mod line_words;
 mod lines;
-mod lists;
+mod name_lists;
 mod parsing;
 mod phrase;
 mod reading;
-#[cfg(test)]
-mod tests;
 mod writing;
 
 pub use command::{Command, LineFault, Sel, SignedName, Tgt};
 pub use lines::{Lines, line_count, lines_of};
-pub use lists::{Names, SignedNames};
+pub use name_lists::{Names, SignedNames};
 pub use parsing::parse;
 pub use writing::spell;

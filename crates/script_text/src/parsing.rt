@@ -7,7 +7,7 @@ ghost use Rattle.script_text.specs.declared.command.Command.TheVariants as comma
 
 use crate::command::{Command, LineFault, Sel, SignedName, Tgt};
 use crate::line_words::says_nothing;
-use crate::lists::{Names, SignedNames};
+use crate::name_lists::{Names, SignedNames};
 use crate::phrase::{Mention, Phrase};
 use crate::reading::phrase;
 use orientation::Turn;

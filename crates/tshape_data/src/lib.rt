@@ -21,11 +21,7 @@ mod rep_parts;
 mod rep_spell;
 mod reps;
 mod spell;
-#[cfg(test)]
-mod spell_tests;
 mod stage;
-#[cfg(test)]
-mod tests;
 mod vertex;
 mod word_lists;
 

@@ -5,8 +5,8 @@ use Rattle.std.specs.List.{flat_map}
 use Rattle.std.proofs.Math.Seq.{take-suc}
 use Rattle.std.proofs.lemmas.Grind.{flat_map-append}
 use Rattle.std.proofs.lemmas.List.{append-nil}
-use Rattle.std.proofs.lemmas.List.Elements.{Contains-get_or}
-use Rattle.expansion_laws.proofs.Members.{All-member, Contains-flat_map}
+use Rattle.std.proofs.lemmas.List.Elements.{Contains-get_or, All-contains}
+use Rattle.lists.proofs.Members.{Contains-flat_map}
 use Rattle.tshape_data.specs.Columns.{edge_columns, point_columns}
 use Rattle.tshape_data.specs.Parts.{Part, column_parts, edge_flags, edge_rep_parts, mesh_parts, point_parts, texts_in, tokens}
 use Rattle.tshape_data.specs.Locations.{location_of_part, data_locations}
@@ -44,7 +44,7 @@ named_point P p e k ks is locations h = first P k ks (subst (All P) (ap point_lo
 
 pub all_within : {X : Type 0} (P : ℕ → Type 0) (f : X → List ℕ) (xs : List X) → All P (flat_map f xs) → All (λ (x : X). All P (f x)) xs
 all_within P f xs h k d lt j e short =
-    All-member P (flat_map f xs) (get_or (f (get_or xs k d)) j e) h
+    All-contains P (flat_map f xs) (get_or (f (get_or xs k d)) j e) h
     (Contains-flat_map f (get_or xs k d) (get_or (f (get_or xs k d)) j e) xs (Contains-get_or xs k d lt) (Contains-get_or (f (get_or xs k d)) j e short))
 
 -- ---- one item more

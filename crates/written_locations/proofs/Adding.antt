@@ -7,7 +7,10 @@ use Rattle.std.proofs.lemmas.Bool.{eqb-true, eqb-false}
 use Rattle.std.proofs.lemmas.List.{length-append, length-set, map-append}
 use Rattle.std.proofs.lemmas.List.Elements.{Contains-get_or, Contains-append_cases}
 use Rattle.std.proofs.lemmas.List.Sums.{fold-append}
-use Rattle.expansion_laws.proofs.Members.{by_test, Distinct, no_more, Contains-cases, Contains-none}
+use Rattle.lists.specs.Distinct.{IsDistinct}
+use Rattle.lists.proofs.Members.{Contains-cases, Contains-none}
+use Rattle.lists.proofs.Distinct.{length-le_from_distinct}
+use Rattle.lists.proofs.Cases.{by_test}
 use Rattle.location_words.specs.declared.pair.Pair.{Pair}
 use Rattle.location_words.specs.Pairs.{pairs_eq}
 use Rattle.location_words.specs.Tables.{entered}
@@ -57,7 +60,7 @@ entered-table further w e =
 -- ---- how many words there are
 pub few-further : (s : WrittenLocations) → IsNumbering s → length (further_of s) ≤ suc (length s.section.now)
 few-further s n =
-    let count = no_more (further_of s) (words_of s.section.now) n.distinct n.of_places in
+    let count = length-le_from_distinct (further_of s) (words_of s.section.now) n.distinct n.of_places in
     let long = length-words s.section.now in
     omega (arith, count, long)
 
@@ -91,7 +94,7 @@ module _ (s : WrittenLocations) (n : IsNumbering s) (place : ℕ) (le : place �
     table = table-is ∙ ap (λ l. [] ∷ l) (sym (ap (drop 1) table-is));
     size = n.size;
     known = λ k j. elim (n.known k j) [ inl zero_yet ↦ inl zero_yet | inr h ↦ inr (entered-keeps k h) ];
-    distinct = subst Distinct (sym further-is) (with-distinct (further_of s) (word_at s place) n.distinct);
+    distinct = subst IsDistinct (sym further-is) (with-distinct (further_of s) (word_at s place) n.distinct);
     none_fixed = λ v m. elim (with-cases (further_of s) (word_at s place) v (subst (λ l. Contains l v) further-is m)) [
       | inl k ↦ n.none_fixed v k
       | inr new ↦ subst (λ z. fixed_number z ≡ None) new.0 new.1

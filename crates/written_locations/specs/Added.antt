@@ -1,10 +1,10 @@
 -- The numbers of the places of a section that have been added so far.
 use Rattle.std.specs.Prelude.{◌≡◌, ◌⊎◌, ◌+◌, ◌≤◌, ℕ, List, [], ◌∷◌, drop, fold, length, map, slice_index, Contains, Option, None}
+use Rattle.lists.specs.Distinct.{IsDistinct}
 use Rattle.location_words.specs.declared.pair.Pair.{Pair}
 use Rattle.location_table.specs.Held.{most_entries}
 use Rattle.location_table.specs.Words.{datums_of, word_of_place, words_of}
 use Rattle.location_table.specs.declared.entry.LocationEntry.{LocationEntry}
-use Rattle.expansion_laws.proofs.Members.{Distinct}
 use Rattle.written_locations.specs.declared.written.WrittenLocations.{WrittenLocations}
 use Rattle.written_locations.specs.Further.{fixed_number, number_of_word, with_word}
 
@@ -36,7 +36,7 @@ pub record IsNumbering (s : WrittenLocations) : Type 0 where
   pub table : s.words ≡ [] ∷ further_of s
   pub size : length s.numbers.items ≡ length s.section.now + 1
   pub known : (place : ℕ) → place ≤ length s.section.now → (slice_index s.numbers.items place ≡ 0) ⊎ IsAdded s place
-  pub distinct : Distinct (further_of s)
+  pub distinct : IsDistinct (further_of s)
   pub none_fixed : (w : List Pair) → Contains (further_of s) w → fixed_number w ≡ None
   pub of_places : (w : List Pair) → Contains (further_of s) w → Contains (words_of s.section.now) w
 

@@ -3,7 +3,7 @@ use Rattle.std.specs.Prelude.{ℕ, List, length, codes}
 use Rattle.std.specs.List.{flat_map, join_with_byte}
 use Rattle.std.proofs.lemmas.List.{append_assoc}
 use Rattle.std.proofs.lemmas.List.Elements.{Contains-append_right}
-use Rattle.expansion_laws.proofs.Members.{Contains-here}
+use Rattle.lists.proofs.Members.{Contains-here}
 use Rattle.brep_tokens.specs.Written.{line_text}
 use Rattle.brep_file.specs.declared.uses.FileUse.{FileUse}
 use Rattle.brep_file.specs.Spelling.{spell_use}
