@@ -10,8 +10,6 @@ mod names;
 mod outputs;
 mod steps;
 mod strays;
-#[cfg(test)]
-mod tests;
 mod transfers;
 
 pub use desk::{Chan, Desk, Failed};
