@@ -9,7 +9,7 @@ use Rattle.expansion_laws.specs.Trees.{Use}
 use Rattle.brep_file.specs.declared.file.File.{File}
 use Rattle.brep_run.specs.declared.outcome.LimitKind.{LimitKind}
 use Rattle.brep_run.specs.declared.outcome.LimitKind.TheVariants.{FileBytes, ScriptBytes, ScriptLines}
-use Rattle.brep_run.specs.Outcomes.{OnDone, OnNotBuilt, IfLimit, IfScript, IfWriteDesk}
+use Rattle.brep_run.specs.Outcomes.{OnDone, OnNotBuilt, IfLimit, IfScript, IfStopped}
 use Rattle.brep_run.specs.Copy.{IsDue, OutWritten}
 use Rattle.brep_file.specs.PlainRecords.{expansion_of}
 use Rattle.brep_run.specs.WrittenFile.{text_of}
@@ -69,8 +69,8 @@ module _ (t : Tells) (a b new : Shown) (quiet : NothingWritten t a b) (closed : 
   done-after (WriteDesk before after file taken) h = tt
   done-after NoMemory h = tt
 
-  pub stopped-after : (o : Outcome) → IfWriteDesk o (λ before after file taken. IsOneStopped t b new target text history told file taken) →
-      IfWriteDesk o (λ before after file taken. IsRewriteStopped t a new source script target history file taken)
+  pub stopped-after : (o : Outcome) → IfStopped o (λ file taken. IsOneStopped t b new target text history told file taken) →
+      IfStopped o (λ file taken. IsRewriteStopped t a new source script target history file taken)
   stopped-after Done h = tt
   stopped-after Usage h = tt
   stopped-after NotBuilt h = tt

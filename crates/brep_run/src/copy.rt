@@ -2,7 +2,7 @@
 ghost use Rattle.std.specs.Prelude.{◌≡◌, ◌≤◌, ◌+◌, ℕ, List, IsTrue};
 ghost use Rattle.brep_desk.specs.Strays.{KeepsStrays, IsHeldIfTold};
 ghost use Rattle.brep_desk.specs.Whole.{NothingWritten, IsLonger};
-ghost use Rattle.brep_run.specs.Outcomes.{OnDone, OnUsage, OnNotBuilt, IfFile, IfLimit, IfScript, IfReadDesk, IfWriteDesk, UnlessWriting};
+ghost use Rattle.brep_run.specs.Outcomes.{OnDone, OnUsage, OnNotBuilt, IfFile, IfLimit, IfScript, IfStopped, IfDeskFault, UnlessWriting};
 ghost use Rattle.brep_run.specs.Copy.{Counts, HoldsFault, OutWritten, PrefixWritten, IsDue, most_bytes};
 
 use crate::input::read_input;
@@ -15,8 +15,8 @@ use std::alloc::Global;
 pub(crate) fn write_out<D: Desk>(desk: &mut D, target: &str, text: &[u8]) -> Outcome
     ensures later { D.faults desk.old ≤ D.faults desk.new }
     ensures done { OnDone result (OutWritten D.tells (D.shows desk.old) (D.shows desk.new) target.now text.now) }
-    ensures stopped { IfWriteDesk result (λ b a file taken. (file ≡ 1) × PrefixWritten D.tells (D.shows desk.old) (D.shows desk.new) target.now text.now taken) }
-    ensures counts { IfWriteDesk result (λ b a file taken. Counts (D.faults desk.old) (D.faults desk.new) b a) }
+    ensures stopped { IfStopped result (λ file taken. (file ≡ 1) × PrefixWritten D.tells (D.shows desk.old) (D.shows desk.new) target.now text.now taken) }
+    ensures counts { IfDeskFault result (Counts (D.faults desk.old) (D.faults desk.new)) }
     ensures either { UnlessWriting result ⊥ }
     ensures strays { KeepsStrays D.tells (D.shows desk.old) (D.shows desk.new) }
 {
@@ -57,9 +57,8 @@ pub(crate) fn write_out<D: Desk>(desk: &mut D, target: &str, text: &[u8]) -> Out
 /// Reads the one name and writes its copy under the other. The text is made whole before the writing begins.
 pub(crate) fn copy<D: Desk>(alloc: Global, desk: &mut D, source: &str, target: &str) -> Outcome
     ensures done { OnDone result ((text : List ℕ) × IsDue D.tells (D.shows desk.old) source.now text × OutWritten D.tells (D.shows desk.old) (D.shows desk.new) target.now text) }
-    ensures stopped { IfWriteDesk result (λ b a file taken. (file ≡ 1) × ((text : List ℕ) × IsDue D.tells (D.shows desk.old) source.now text × PrefixWritten D.tells (D.shows desk.old) (D.shows desk.new) target.now text taken)) }
-    ensures write_counts { IfWriteDesk result (λ b a file taken. Counts (D.faults desk.old) (D.faults desk.new) b a) }
-    ensures read_counts { IfReadDesk result (λ b a. Counts (D.faults desk.old) (D.faults desk.new) b a) }
+    ensures stopped { IfStopped result (λ file taken. (file ≡ 1) × ((text : List ℕ) × IsDue D.tells (D.shows desk.old) source.now text × PrefixWritten D.tells (D.shows desk.old) (D.shows desk.new) target.now text taken)) }
+    ensures counts { IfDeskFault result (Counts (D.faults desk.old) (D.faults desk.new)) }
     ensures limit { IfLimit result (λ which count. (which ≡ LimitKind.FileBytes) × (count ≡ most_bytes + 1) × IsLonger D.tells (D.shows desk.old) source.now most_bytes) }
     ensures file { IfFile result (λ fault. IsTrue D.tells.held → HoldsFault (D.shows desk.old) source.now fault) }
     ensures not_built { OnNotBuilt result ⊥ }
