@@ -1,6 +1,8 @@
 -- What was read first is still held, and nothing was written since.
 use Rattle.std.proofs.Common.{◌≡◌, ℕ, inl, inr, List, Some, true, IsTrue, sym, ap, subst, ◌∙◌}
 use Rattle.brep_desk.specs.Shown.{Shown, Tells, ChangesOnly}
+use Rattle.std.specs.Prelude.{Option, is_some}
+use Rattle.brep_desk.specs.Strays.{IsHeldIfTold, KeepsStrays}
 use Rattle.brep_desk.specs.Whole.{NothingWritten, NoMoreOpen}
 use Rattle.brep_run.specs.declared.outcome.Outcome.{Outcome}
 use Rattle.brep_run.specs.declared.outcome.Outcome.TheVariants.{Done, Usage, NotBuilt, Script, Limit, ReadDesk, WriteDesk, NoMemory}
@@ -14,7 +16,7 @@ use Rattle.brep_run.specs.Copy.{IsDue, OutWritten}
 use Rattle.brep_file.specs.PlainRecords.{expansion_of}
 use Rattle.brep_run.specs.WrittenFile.{text_of}
 use Rattle.brep_run.specs.Inputs.{IsLinesStop, IsScriptLimit, IsScriptStop}
-use Rattle.brep_run.specs.Rewrite.{AreDue, AreTextsOf, BothWritten, HoldsFile, HoldsScript, IsRefusedLine, IsRewriteLimit, IsRewriteUnbuilt, IsRewritten, IsOneStopped, IsRewriteStopped, given_for}
+use Rattle.brep_run.specs.Rewrite.{AreDue, AreTextsOf, BothWritten, HoldsFile, HoldsScript, InputsAreHeld, IsRefusedLine, IsRewriteLimit, IsRewriteUnbuilt, IsRewritten, IsOneStopped, IsRewriteStopped, given_for}
 use Rattle.brep_run.specs.Script.{removals}
 use Rattle.brep_run.proofs.Stopping.{prefix_after}
 
@@ -23,6 +25,14 @@ held-before t old new name bytes quiet is = sym (ap (λ f. f name) quiet.held) �
 
 pub quiet-both : (t : Tells) (a b d : Shown) → NothingWritten t a b → NothingWritten t b d → NothingWritten t a d
 quiet-both t a b d one two = record { held = two.held ∙ one.held; written = λ w. two.written w ∙ one.written w; ended = λ w. two.ended w ∙ one.ended w }
+
+pub strays-both : (t : Tells) (a b d : Shown) → KeepsStrays t a b → KeepsStrays t b d → KeepsStrays t a d
+strays-both t a b d one two = λ told. two told ∙ one told
+
+-- after the file was read, the script is still held
+pub script-held : (t : Tells) (a b : Shown) (source script : List ℕ) (f : File) → NothingWritten t a b → (IsTrue t.held → HoldsFile a source f) → InputsAreHeld t a source script → IsHeldIfTold t b script
+script-held t a b source script f quiet file inputs = λ told.
+    subst (λ (h : List ℕ → Option (List ℕ)). IsTrue (is_some (h script))) (sym quiet.held) (inputs.script f (file told) told)
 
 pub closed-both : (a b d : Shown) → NoMoreOpen a b → NoMoreOpen b d → NoMoreOpen a d
 closed-both a b d one two = λ k. elim (two k) [
