@@ -22,10 +22,27 @@ for folder in crates/*/; do
     grep -q "^$name\( [^:]*\)\?:" crates.txt || fail "crates/$name is not listed in crates.txt"
 done
 
-# The program that the gate built, on real files.
+# The program that makes version 1 of version 3.
+bash scripts/version-3.sh || fail 'from-version-3 went wrong'
+
+# The program that draws a file's records.
+bash scripts/picture.sh || fail 'picture went wrong'
+
+# The manual page is the one that its sources give, and reads without warnings.
+if command -v python3 >/dev/null; then
+    python3 scripts/manual | cmp -s - docs/brep.1 || fail 'docs/brep.1 is not what scripts/manual writes'
+fi
+if command -v man >/dev/null; then
+    [ -z "$(man --warnings -E UTF-8 -l -Tutf8 docs/brep.1 2>&1 >/dev/null)" ] || fail 'docs/brep.1 has warnings'
+fi
+
+# The program that the gate built, on real files, and as it is handed out.
 program=$PWD/crates/brep_cli/out/brep_cli
 if [ -x "$program" ]; then
     bash scripts/program.sh "$program" || fail 'the built program went wrong'
+    archive=$(mktemp -d)
+    bash scripts/release "$archive" >"$archive/said" || fail 'the archive went wrong'
+    rm -rf "$archive"
 fi
 
 exit "$failed"

@@ -30,3 +30,14 @@ for version in 1 2; do
     fi
     echo "occt: version $version: $(wc -c <"$work/model.brep") bytes, the copy holds the same shape and is its own copy"
 done
+
+# of version 3: turned into version 1, it is the text that Open CASCADE itself writes in version 1, and it is copied
+if command -v python3 >/dev/null; then
+    "$work/model" make "$work/third.brep" 3
+    "$work/model" make "$work/first.brep" 1
+    scripts/from-version-3 "$work/third.brep" "$work/turned.brep"
+    cmp "$work/first.brep" "$work/turned.brep"
+    ./brep copy "$work/turned.brep" "$work/copy.brep"
+    "$work/model" same "$work/turned.brep" "$work/copy.brep"
+    echo "occt: version 3: $(wc -c <"$work/third.brep") bytes, turned into the version 1 text that Open CASCADE writes"
+fi

@@ -3,7 +3,7 @@
 //   model make FILE VERSION   writes a filleted box with a hole, meshed, and used three times under locations
 //   model same FILE FILE      reads both, and writes each again: 0 where the two texts are one
 //
-// VERSION is 1 or 2, the version of the BREP text format.
+// VERSION is 1, 2 or 3, the version of the BREP text format; a text of version 3 has the normals of the meshes.
 
 #include <BRepAlgoAPI_Cut.hxx>
 #include <BRepBuilderAPI_Transform.hxx>
@@ -13,6 +13,8 @@
 #include <BRepPrimAPI_MakeCylinder.hxx>
 #include <BRepTools.hxx>
 #include <BRep_Builder.hxx>
+#include <BRep_Tool.hxx>
+#include <Poly_Triangulation.hxx>
 #include <TopExp_Explorer.hxx>
 #include <TopTools_FormatVersion.hxx>
 #include <TopoDS.hxx>
@@ -53,16 +55,27 @@ static TopoDS_Shape placedParts(const TopoDS_Shape& part) {
 }
 
 static TopTools_FormatVersion versionOf(const char* word) {
+  if (std::strcmp(word, "3") == 0) return TopTools_FormatVersion_VERSION_3;
   return std::strcmp(word, "2") == 0 ? TopTools_FormatVersion_VERSION_2 : TopTools_FormatVersion_VERSION_1;
 }
 
 static bool write(const TopoDS_Shape& shape, const char* file, TopTools_FormatVersion version) {
-  return BRepTools::Write(shape, file, Standard_True, Standard_False, version);
+  return BRepTools::Write(shape, file, Standard_True, version == TopTools_FormatVersion_VERSION_3, version);
+}
+
+// Gives each mesh of the part normals, which versions before 3 don't write.
+static void addNormals(const TopoDS_Shape& part) {
+  for (TopExp_Explorer face(part, TopAbs_FACE); face.More(); face.Next()) {
+    TopLoc_Location location;
+    const Handle(Poly_Triangulation) mesh = BRep_Tool::Triangulation(TopoDS::Face(face.Current()), location);
+    if (!mesh.IsNull()) mesh->ComputeNormals();
+  }
 }
 
 static int make(const char* file, const char* version) {
   const TopoDS_Shape part = filletedPart();
   BRepMesh_IncrementalMesh(part, 0.5);
+  addNormals(part);
   return write(placedParts(part), file, versionOf(version)) ? 0 : 1;
 }
 

@@ -43,14 +43,26 @@ impl<'a> DiskDesk<'a> {
         }
     }
 
-    /// A new channel for what was opened; a fault, where nothing was.
-    fn channel_for(&mut self, opened: Option<Slot>) -> Result<Chan, Failed>
+    /// A new channel, closed. It is kept before anything is opened for it, so that want of memory leaves a file as it was.
+    fn new_slot(&mut self) -> Result<Chan, Failed>
         ensures { HasCause self.old.faults self.new.faults result }
     {
         let number = self.slots.len() as u64;
-        if let Some(slot) = opened {
-            if self.slots.push(slot).is_ok() {
-                return Ok(Chan { number });
+        if self.slots.push(Slot::Closed).is_ok() {
+            return Ok(Chan { number });
+        }
+        self.faults = raised(self.faults);
+        Err(Failed)
+    }
+
+    /// Opens the channel for what was opened; a fault, where nothing was.
+    fn fill(&mut self, c: Chan, opened: Option<Slot>) -> Result<Chan, Failed>
+        ensures { HasCause self.old.faults self.new.faults result }
+    {
+        if let Some(filled) = opened {
+            if let Some(slot) = self.slots.get_mut(c.number as usize) {
+                *slot = filled;
+                return Ok(c);
             }
         }
         self.faults = raised(self.faults);
@@ -72,15 +84,16 @@ impl Desk for DiskDesk<'_> {
 
     ghost shows = { λ _. shows_nothing };
 
-    ghost told = { record { held = λ h. h; left = λ h. h; written = λ h. h; ended = λ h. h; strays = λ h. h } };
+    ghost told = { record { held = λ h. h; left = λ h. h; written = λ h. h; ended = λ h. h; strays = λ h. h; writing_calls = λ h. h } };
 
     fn begin_read(&mut self, name: &str) -> Result<Chan, Failed> {
+        let c = self.new_slot()?;
         let opened = if name == "-" {
             Some(Slot::Input)
         } else {
             fs::open(self.rt, name).ok().map(Slot::Reading)
         };
-        self.channel_for(opened)
+        self.fill(c, opened)
     }
 
     fn read(&mut self, c: Chan, buf: &mut [u8]) -> Result<usize, Failed> {
@@ -96,12 +109,13 @@ impl Desk for DiskDesk<'_> {
     }
 
     fn begin_write(&mut self, name: &str) -> Result<Chan, Failed> {
+        let c = self.new_slot()?;
         let opened = if name == "-" {
             Some(Slot::Output)
         } else {
             fs::create(self.rt, name).ok().map(Slot::Writing)
         };
-        self.channel_for(opened)
+        self.fill(c, opened)
     }
 
     fn write(&mut self, c: Chan, bytes: &[u8]) -> Result<usize, Failed> {

@@ -3,8 +3,9 @@ use Rattle.std.proofs.Common.{◌≡◌, ◌≢◌, ℕ, zero, suc, ◌+◌, ◌
 use Rattle.std.proofs.Math.Path.{fun_ext}
 use Rattle.brep_desk.specs.Shown.{closed, ChangesOnly}
 use Rattle.brep_desk.specs.declared.channels.Channel.{Channel}
-use Rattle.brep_desk.specs.declared.channels.Channel.TheVariants as channels
-use Rattle.brep_desk.specs.Kept.{of_channel, left_of, use_of, left_in, use_in, IsNotReading, IsNotWriting}
+use Rattle.brep_desk.specs.declared.channels.State.{State}
+use Rattle.brep_desk.specs.declared.channels.State.TheVariants.{Closed, Reading, Writing}
+use Rattle.brep_desk.specs.Kept.{of_channel, left_of, state_of, state_over, left_in, state_in, IsNotReading, IsNotWriting}
 
 pub of_channel-past : {A : Type 0} (f : Channel → A) (d : A) (cs : List Channel) (k : ℕ) → length cs ≤ k → of_channel f d cs k ≡ d
 of_channel-past f d [] k le = refl
@@ -66,34 +67,42 @@ set_kept_at f d (x ∷ cs) (suc i) c same (suc k) = set_kept_at f d cs i c same 
 pub of_channel-set_kept : {A : Type 0} (f : Channel → A) (d : A) (cs : List Channel) (i : ℕ) (c : Channel) → of_channel f d cs i ≡ f c → of_channel f d (set cs i c) ≡ of_channel f d cs
 of_channel-set_kept f d cs i c same = fun_ext (set_kept_at f d cs i c same)
 
-pub left_in-read : (cs : List Channel) (k : ℕ) (name bytes : List ℕ) (at count : ℕ) → k < length cs → left_in cs k ≡ drop at bytes → ChangesOnly (left_in cs) (left_in (set cs k (channels.Reading name bytes (at + count)))) k (drop count (left_in cs k))
-left_in-read cs k name bytes at count lt is =
-    let value : drop (at + count) bytes ≡ drop count (left_in cs k) = sym (drop-drop count at bytes) ∙ ap (λ (x : List ℕ). drop count x) (sym is) in
-    subst (λ (v : List ℕ). ChangesOnly (left_in cs) (left_in (set cs k (channels.Reading name bytes (at + count)))) k v) value (of_channel-set left_of [] cs k _ lt)
+-- the channel at a number has the state
+pub state_in-get : (cs : List Channel) (k : ℕ) (x : Channel) (s : State) → k < length cs → (get_or cs k x).state ≡ s → state_in cs k ≡ state_over s (get_or cs k x).name
+state_in-get cs k x s lt is = of_channel-get state_of closed cs k x (get_or cs k x) lt refl ∙ ap (λ (v : State). state_over v (get_or cs k x).name) is
 
-not_reading : (c : Channel) → ((name bytes : List ℕ) (at : ℕ) → c ≡ channels.Reading name bytes at → ⊥) → IsNotReading (use_of c)
-not_reading channels.Closed no_reading = tt
-not_reading (channels.Reading name bytes at) no_reading = no_reading name bytes at refl
-not_reading (channels.Writing name) no_reading = tt
+pub state_in-at : (cs : List Channel) (k : ℕ) (c : Channel) (s : State) → k < length cs → c ≡ get_or cs k c → c.state ≡ s → state_in cs k ≡ state_over s c.name
+state_in-at cs k c s lt got is = of_channel-at state_of closed cs k c c lt got refl ∙ ap (λ (v : State). state_over v c.name) is
 
-pub IsNotReading-get : (cs : List Channel) (k : ℕ) (x : Channel) → k < length cs → ((name bytes : List ℕ) (at : ℕ) → get_or cs k x ≡ channels.Reading name bytes at → ⊥) → IsNotReading (use_in cs k)
-IsNotReading-get cs k x lt other = subst IsNotReading (sym (get_at use_of closed cs k x lt)) (not_reading (get_or cs k x) other)
+pub left_in-get : (cs : List Channel) (k : ℕ) (x : Channel) → k < length cs → left_in cs k ≡ left_of (get_or cs k x)
+left_in-get cs k x lt = of_channel-get left_of [] cs k x (get_or cs k x) lt refl
 
-not_writing : (c : Channel) → ((name : List ℕ) → c ≡ channels.Writing name → ⊥) → IsNotWriting (use_of c)
-not_writing channels.Closed no_writing = tt
-not_writing (channels.Reading name bytes at) no_writing = tt
-not_writing (channels.Writing name) no_writing = no_writing name refl
+pub left_in-read : (cs : List Channel) (k : ℕ) (c : Channel) (count : ℕ) → k < length cs → left_in cs k ≡ left_of c → ChangesOnly (left_in cs) (left_in (set cs k (record c { at = c.at + count }))) k (drop count (left_in cs k))
+left_in-read cs k c count lt was =
+    let value : drop (c.at + count) c.bytes ≡ drop count (left_in cs k) = sym (drop-drop count c.at c.bytes) ∙ ap (λ (x : List ℕ). drop count x) (sym was) in
+    subst (λ (v : List ℕ). ChangesOnly (left_in cs) (left_in (set cs k (record c { at = c.at + count }))) k v) value (of_channel-set left_of [] cs k (record c { at = c.at + count }) lt)
 
-pub IsNotWriting-at : (cs : List Channel) (k : ℕ) (c : Channel) → k < length cs → c ≡ get_or cs k c → ((name : List ℕ) → c ≡ channels.Writing name → ⊥) → IsNotWriting (use_in cs k)
-IsNotWriting-at cs k c lt got other = subst IsNotWriting (sym (of_channel-at use_of closed cs k c c lt got refl)) (not_writing c other)
+not_reading : (s : State) (name : List ℕ) → s ≢ Reading → IsNotReading (state_over s name)
+not_reading Closed name other = tt
+not_reading Reading name other = other refl
+not_reading Writing name other = tt
 
-pub use_of-open : (c : Channel) → (c ≡ channels.Closed → ⊥) → use_of c ≢ closed
-use_of-open channels.Closed other is = other refl
-use_of-open (channels.Reading name bytes at) other is = absurd cc
-use_of-open (channels.Writing name) other is = absurd cc
+pub IsNotReading-get : (cs : List Channel) (k : ℕ) (x : Channel) → k < length cs → (get_or cs k x).state ≢ Reading → IsNotReading (state_in cs k)
+IsNotReading-get cs k x lt other =
+    subst IsNotReading (sym (state_in-get cs k x (get_or cs k x).state lt refl)) (not_reading (get_or cs k x).state (get_or cs k x).name other)
 
-pub of_channel-closed : {A : Type 0} (f : Channel → A) (d : A) (cs : List Channel) (i : ℕ) (c : Channel) → i < length cs → c ≡ channels.Closed → ChangesOnly (of_channel f d cs) (of_channel f d (set cs i c)) i (f channels.Closed)
-of_channel-closed f d cs i c lt is = subst (λ (x : Channel). ChangesOnly (of_channel f d cs) (of_channel f d (set cs i c)) i (f x)) is (of_channel-set f d cs i c lt)
+not_writing : (s : State) (name : List ℕ) → s ≢ Writing → IsNotWriting (state_over s name)
+not_writing Closed name other = tt
+not_writing Reading name other = tt
+not_writing Writing name other = other refl
+
+pub IsNotWriting-at : (cs : List Channel) (k : ℕ) (c : Channel) → k < length cs → c ≡ get_or cs k c → c.state ≢ Writing → IsNotWriting (state_in cs k)
+IsNotWriting-at cs k c lt got other = subst IsNotWriting (sym (state_in-at cs k c c.state lt got refl)) (not_writing c.state c.name other)
+
+pub state_over-open : (s : State) (name : List ℕ) → s ≢ Closed → state_over s name ≢ closed
+state_over-open Closed name other is = other refl
+state_over-open Reading name other is = absurd cc
+state_over-open Writing name other is = absurd cc
 
 pushed_kept_at : {A : Type 0} (f : Channel → A) (d : A) (cs : List Channel) (c : Channel) → f c ≡ d → (k : ℕ) → of_channel f d (cs ++ c ∷ []) k ≡ of_channel f d cs k
 pushed_kept_at f d [] c none zero = none

@@ -1,9 +1,9 @@
 -- Pieces that are written one after another are one text.
 use Rattle.std.proofs.Common.{◌≡◌, ℕ, ◌+◌, ◌≤◌, ◌<◌, List, [], ◌++◌, length, take, drop, Option, Some, unwrap_or, refl, sym, ap, subst, ◌∙◌, append_assoc, arith}
 use Rattle.std.proofs.lemmas.List.{append-nil, length-append, length-take, length-drop, take-take, drop-take, take-append-drop}
-use Rattle.brep_desk.specs.Shown.{Use, writing, Shown, Tells, ChangesOnly, Same}
+use Rattle.brep_desk.specs.Shown.{ChannelState, writing, Shown, Tells, ChangesOnly, Same}
 use Rattle.brep_desk.specs.Calls.{Writes}
-use Rattle.brep_desk.specs.Whole.{Appended, TakesAtMost}
+use Rattle.brep_desk.specs.Transfers.{Appended, TakesAtMost}
 
 unchanged : {K A : Type 0} (f : K → A) (place : K) → ChangesOnly f f place (f place)
 unchanged f place = record { here = refl; others = λ k _. refl }
@@ -26,8 +26,8 @@ take-add n m text =
     let back : drop n (take (n + m) text) ≡ take m (drop n text) = drop-take n m text in
     rw (← front, ← back) (take-append-drop n (take (n + m) text))
 
-same_channel : (a b : Shown) (c : ℕ) (u : Use) → b.opened ≡ a.opened → a.opened c ≡ u → b.opened c ≡ u
-same_channel a b c u same is = ap (λ (f : ℕ → Use). f c) same ∙ is
+same_channel : (a b : Shown) (c : ℕ) (u : ChannelState) → b.opened ≡ a.opened → a.opened c ≡ u → b.opened c ≡ u
+same_channel a b c u same is = ap (λ (f : ℕ → ChannelState). f c) same ∙ is
 
 pub Appended-then : (t : Tells) (a b d : Shown) (c : ℕ) (text : List ℕ) (n m : ℕ) → n < length text → Appended t a b c text n → Writes t b d c (drop n text) m → Appended t a d c text (n + m)
 Appended-then t a b d c text n m more p q = record {

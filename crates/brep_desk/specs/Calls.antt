@@ -1,6 +1,6 @@
 -- What the calls of a desk do where they succeed. A call that fails changes nothing that is shown.
 use Rattle.std.specs.Prelude.{◌≡◌, ◌≢◌, ℕ, ◌<◌, ◌≤◌, Bool, true, false, IsTrue, List, [], ◌++◌, length, take, drop, Some, unwrap_or}
-use Rattle.brep_desk.specs.Shown.{Use, closed, reading, writing, Shown, Tells, ChangesOnly}
+use Rattle.brep_desk.specs.Shown.{ChannelState, closed, reading, writing, Shown, Tells, ChangesOnly}
 
 -- A channel is open for reading the name, and has all that the name holds.
 pub record BeginsReading (t : Tells) (old new : Shown) (name : List ℕ) (c : ℕ) : Type 0 where
@@ -43,15 +43,15 @@ pub record Writes (t : Tells) (old new : Shown) (c : ℕ) (bytes : List ℕ) (co
   pub written : IsTrue t.written → (name : List ℕ) → old.opened c ≡ writing name → ChangesOnly old.written new.written name (Some (unwrap_or (old.written name) [] ++ take count bytes))
 
 -- whether writing of the channel's name has ended, after it was closed
-abbrev pub EndsName : Use → (List ℕ → Bool) → (List ℕ → Bool) → Type 0
+abbrev pub EndsName : ChannelState → (List ℕ → Bool) → (List ℕ → Bool) → Type 0
 EndsName closed old new = new ≡ old
 EndsName (reading name) old new = new ≡ old
 EndsName (writing name) old new = ChangesOnly old new name true
 
--- The channel is closed. If it was one of writing, its name is ended.
+-- The channel is closed, and what is left of it stays. If it was one of writing, its name is ended.
 pub record Ends (t : Tells) (old new : Shown) (c : ℕ) : Type 0 where
   pub held : new.held ≡ old.held
-  pub left : IsTrue t.left → (k : ℕ) → k ≢ c → new.left k ≡ old.left k
+  pub left : new.left ≡ old.left
   pub written : new.written ≡ old.written
   pub ended : IsTrue t.ended → EndsName (old.opened c) old.ended new.ended
   pub opened : IsTrue t.opened → ChangesOnly old.opened new.opened c closed

@@ -1,4 +1,4 @@
--- How a refused call and a stray call are counted.
+-- How a desk in memory counts refused calls, stray calls and calls of writing.
 use Rattle.std.specs.Prelude.{ℕ, Bool, true, false}
 use Rattle.brep_desk.specs.Causes.{raised}
 use Rattle.brep_desk.specs.declared.counts.Refusal.{Refusal}
@@ -9,7 +9,7 @@ abbrev pub short_after : Refusal → ℕ → ℕ
 short_after Fault short = short
 short_after NoMemory short = raised short
 
--- the count of stray calls, after a call
-abbrev pub strays_after : Bool → ℕ → ℕ
-strays_after true strays = raised strays
-strays_after false strays = strays
+-- a count of calls, after one that it counts or doesn't
+abbrev pub after_call : Bool → ℕ → ℕ
+after_call true count = raised count
+after_call false count = count

@@ -2,10 +2,12 @@
 use Rattle.std.specs.Prelude.{◌≡◌, ℕ, zero, suc, Bool, true, false, if◌then◌else◌, nat_eq, IsTrue, List, [], ◌∷◌, drop, Option, Some, None, is_some}
 use Rattle.std.specs.Borrow.{Bor}
 use Rattle.std.specs.Cmp.Lexicographic.{pointwise}
-use Rattle.brep_desk.specs.Shown.{Use, closed, reading, writing, Shown}
+use Rattle.brep_desk.specs.Shown.{ChannelState, closed, reading, writing, Shown}
 use Rattle.brep_desk.specs.declared.outputs.Output.{Output}
 use Rattle.brep_desk.specs.declared.channels.Channel.{Channel}
-use Rattle.brep_desk.specs.declared.channels.Channel.TheVariants as channels
+use Rattle.brep_desk.specs.declared.channels.State.{State}
+use Rattle.brep_desk.specs.declared.channels.State.TheVariants.{Closed, Reading, Writing}
+use Rattle.brep_desk.specs.declared.counts.Counts.{Counts}
 
 -- the bytes of the first file with the name
 abbrev pub held_in : List (List ℕ × List ℕ) → List ℕ → Option (List ℕ)
@@ -30,14 +32,16 @@ abbrev pub ended_in : List Output → List ℕ → Bool
 ended_in = of_output is_ended false
 
 abbrev pub left_of : Channel → List ℕ
-left_of channels.Closed = []
-left_of (channels.Reading name bytes at) = drop at bytes
-left_of (channels.Writing name) = []
+left_of c = drop c.at c.bytes
 
-abbrev pub use_of : Channel → Use
-use_of channels.Closed = closed
-use_of (channels.Reading name bytes at) = reading name
-use_of (channels.Writing name) = writing name
+-- a channel over the name in the state
+abbrev pub state_over : State → List ℕ → ChannelState
+state_over Closed name = closed
+state_over Reading name = reading name
+state_over Writing name = writing name
+
+abbrev pub state_of : Channel → ChannelState
+state_of c = state_over c.state c.name
 
 -- a property of the channel with the number, or what stands for none
 abbrev pub of_channel : {A : Type 0} → (Channel → A) → A → List Channel → ℕ → A
@@ -48,11 +52,19 @@ of_channel f d (c ∷ cs) (suc k) = of_channel f d cs k
 abbrev pub left_in : List Channel → ℕ → List ℕ
 left_in = of_channel left_of []
 
-abbrev pub use_in : List Channel → ℕ → Use
-use_in = of_channel use_of closed
+abbrev pub state_in : List Channel → ℕ → ChannelState
+state_in = of_channel state_of closed
 
-abbrev pub shown_by : List (List ℕ × List ℕ) → List Output → List Channel → ℕ → Shown
-shown_by files outputs channels count = record { held = held_in files; left = left_in channels; written = written_in outputs; ended = ended_in outputs; opened = use_in channels; strays = count }
+abbrev pub shown_by : List (List ℕ × List ℕ) → List Output → List Channel → Counts → Shown
+shown_by files outputs channels counts = record {
+  held = held_in files;
+  left = left_in channels;
+  written = written_in outputs;
+  ended = ended_in outputs;
+  opened = state_in channels;
+  strays = counts.strays;
+  writing_calls = counts.writing_calls;
+}
 
 -- a reference to bytes, or none
 abbrev pub Shows : Option (Bor (List ℕ)) → Option (List ℕ) → Type 0
@@ -71,15 +83,16 @@ IsBegun outputs name = IsTrue (is_some (written_in outputs name))
 
 -- each channel that is open for writing has an output
 abbrev pub AllBegun : List Output → List Channel → Type 0
-AllBegun outputs channels = (k : ℕ) (name : List ℕ) → use_in channels k ≡ writing name → IsBegun outputs name
+AllBegun outputs channels = (k : ℕ) (name : List ℕ) → state_in channels k ≡ writing name → IsBegun outputs name
 
--- what a channel is open for is not reading
-abbrev pub IsNotReading : Use → Type 0
+-- the channel is not open for reading
+abbrev pub IsNotReading : ChannelState → Type 0
 IsNotReading closed = Unit {0}
 IsNotReading (reading name) = ⊥
 IsNotReading (writing name) = Unit {0}
 
-abbrev pub IsNotWriting : Use → Type 0
+-- the channel is not open for writing
+abbrev pub IsNotWriting : ChannelState → Type 0
 IsNotWriting closed = Unit {0}
 IsNotWriting (reading name) = Unit {0}
 IsNotWriting (writing name) = ⊥

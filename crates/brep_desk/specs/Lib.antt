@@ -2,7 +2,8 @@ pub mod Shown
 pub mod Calls
 pub mod Causes
 pub mod Strays
-pub mod Whole
+pub mod WritingCalls
+pub mod Transfers
 pub mod Kept
 pub mod Counting
 pub mod Memory

@@ -8,7 +8,7 @@ use Rattle.brep_desk.specs.declared.desk.Failed.{Failed}
 use Rattle.brep_desk.specs.declared.memory.MemoryDesk.{MemoryDesk}
 
 abbrev pub shown_of : MemoryDesk → Shown
-shown_of d = shown_by d.files.items d.outputs.items d.channels.items d.counts.strays
+shown_of d = shown_by d.files.items d.outputs.items d.channels.items d.counts
 
 -- how many calls were made, failed, and failed for want of memory
 abbrev pub calls_of : MemoryDesk → ℕ
@@ -42,6 +42,7 @@ pub record Starts (d : MemoryDesk) (files : List (List ℕ × List ℕ)) (to_fai
   pub ended : (name : List ℕ) → (shown_of d).ended name ≡ false
   pub opened : (c : ℕ) → (shown_of d).opened c ≡ closed
   pub strays : (shown_of d).strays ≡ 0
+  pub writing_calls : (shown_of d).writing_calls ≡ 0
   pub channels : channels_of d ≡ 0
   pub calls : calls_of d ≡ 0
   pub faults : faults_of d ≡ 0

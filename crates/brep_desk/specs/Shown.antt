@@ -2,10 +2,10 @@
 use Rattle.std.specs.Prelude.{◌≡◌, ◌≢◌, ℕ, Bool, true, false, IsTrue, List, [], Option, None}
 
 -- what a channel is open for, by the bytes of the name
-pub data Use : Type 0 where
-  closed : Use
-  reading : List ℕ → Use
-  writing : List ℕ → Use
+pub data ChannelState : Type 0 where
+  closed : ChannelState
+  reading : List ℕ → ChannelState
+  writing : List ℕ → ChannelState
 
 -- a name is its bytes, a channel its number
 pub record Shown : Type 0 where
@@ -17,9 +17,11 @@ pub record Shown : Type 0 where
   pub written : List ℕ → Option (List ℕ)
   -- whether that writing was ended
   pub ended : List ℕ → Bool
-  pub opened : ℕ → Use
+  pub opened : ℕ → ChannelState
   -- how many stray calls were made: over a channel that is not open for them, of no bytes, or for a name that is not held
   pub strays : ℕ
+  -- how many calls of writing were made: to begin writing, to write, and to end a channel of writing, failed ones included
+  pub writing_calls : ℕ
 
 -- which of these a desk tells; a desk that does not tell one shows the same of it at all times
 pub record Tells : Type 0 where
@@ -29,15 +31,16 @@ pub record Tells : Type 0 where
   pub ended : Bool
   pub opened : Bool
   pub strays : Bool
+  pub writing_calls : Bool
 
 abbrev pub tells_all : Tells
-tells_all = record { held = true; left = true; written = true; ended = true; opened = true; strays = true }
+tells_all = record { held = true; left = true; written = true; ended = true; opened = true; strays = true; writing_calls = true }
 
 abbrev pub tells_nothing : Tells
-tells_nothing = record { held = false; left = false; written = false; ended = false; opened = false; strays = false }
+tells_nothing = record { held = false; left = false; written = false; ended = false; opened = false; strays = false; writing_calls = false }
 
 abbrev pub shows_nothing : Shown
-shows_nothing = record { held = λ _. None; left = λ _. []; written = λ _. None; ended = λ _. false; opened = λ _. closed; strays = 0 }
+shows_nothing = record { held = λ _. None; left = λ _. []; written = λ _. None; ended = λ _. false; opened = λ _. closed; strays = 0; writing_calls = 0 }
 
 -- a desk that tells one of them tells what goes with it
 pub record AreTold (t : Tells) : Type 0 where
@@ -46,8 +49,9 @@ pub record AreTold (t : Tells) : Type 0 where
   pub written : IsTrue t.written → IsTrue t.ended
   pub ended : IsTrue t.ended → IsTrue t.opened
   pub strays : IsTrue t.strays → IsTrue t.opened
+  pub writing_calls : IsTrue t.writing_calls → IsTrue t.opened
 
--- everything that is shown stays, strays apart
+-- everything that is shown stays, the counts of calls apart
 pub record Same (old new : Shown) : Type 0 where
   pub held : new.held ≡ old.held
   pub left : new.left ≡ old.left

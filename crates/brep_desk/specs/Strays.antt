@@ -1,35 +1,33 @@
 -- Stray calls, which a run in good order never makes, and how a desk counts them.
-use Rattle.std.specs.Prelude.{◌≡◌, ◌==◌, ◌&&◌, ℕ, ◌≤◌, Bool, true, false, IsTrue, List, Option, is_none, is_some}
-use Rattle.brep_desk.specs.Causes.{Rose}
-use Rattle.brep_desk.specs.Shown.{Use, closed, reading, writing, Shown, Tells}
+use Rattle.std.specs.Prelude.{◌≡◌, ◌==◌, ◌&&◌, ℕ, Bool, true, false, IsTrue, List, Option, is_none, is_some}
+use Rattle.brep_desk.specs.Causes.{CountsCall}
+use Rattle.brep_desk.specs.Shown.{ChannelState, closed, reading, writing, Shown, Tells}
 
 -- where it is told what is held: the reading begins of a name that is not
 abbrev pub is_stray_begin_read : Tells → Option (List ℕ) → Bool
 is_stray_begin_read t content = t.held && is_none content
 
 -- a read over a channel that is not open for it, or with no room for bytes
-abbrev pub is_stray_read : Use → ℕ → Bool
+abbrev pub is_stray_read : ChannelState → ℕ → Bool
 is_stray_read closed room = true
 is_stray_read (reading name) room = room == 0
 is_stray_read (writing name) room = true
 
 -- a write over a channel that is not open for it, or of no bytes
-abbrev pub is_stray_write : Use → ℕ → Bool
+abbrev pub is_stray_write : ChannelState → ℕ → Bool
 is_stray_write closed count = true
 is_stray_write (reading name) count = true
 is_stray_write (writing name) count = count == 0
 
 -- the end of a channel that is not open
-abbrev pub is_stray_end : Use → Bool
+abbrev pub is_stray_end : ChannelState → Bool
 is_stray_end closed = true
 is_stray_end (reading name) = false
 is_stray_end (writing name) = false
 
--- Where strays are told, a stray call raised their count, or left it at the last number of 64 bits, and any other call kept it.
-pub record CountsStrays (t : Tells) (old new : Shown) (stray : Bool) : Type 0 where
-  pub later : IsTrue t.strays → old.strays ≤ new.strays
-  pub rose : IsTrue t.strays → IsTrue stray → Rose old.strays new.strays
-  pub kept : IsTrue t.strays → stray ≡ false → new.strays ≡ old.strays
+-- where strays are told, a stray call raised their count, or left it at the last number of 64 bits, and any other call kept it
+abbrev pub CountsStrays : Tells → Shown → Shown → Bool → Type 0
+CountsStrays t old new stray = CountsCall t.strays old.strays new.strays stray
 
 -- strays, where they are told, are as they were
 abbrev pub KeepsStrays : Tells → Shown → Shown → Type 0

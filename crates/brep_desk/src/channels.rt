@@ -1,23 +1,28 @@
 //! Channels of a desk in memory. Their numbers are never used again.
 ghost use Rattle.std.specs.Prelude.{◌≡◌, ◌≢◌, ℕ, List, ◌<◌, ◌≤◌, ◌-◌, ◌^◌, [], ◌∷◌, ◌++◌, length, take, drop, min, IfSome, IfNone, IfOk, IfErr, OnOk, OnErr, IsTrue, ◌↔◌, None, Some};
+ghost use Rattle.std.specs.Bool.{OnTrue, OnFalse};
 ghost use Rattle.brep_desk.specs.Shown.{closed, reading, writing, ChangesOnly};
-ghost use Rattle.brep_desk.specs.Kept.{left_in, use_in, use_of, IsNotReading, IsNotWriting};
+ghost use Rattle.brep_desk.specs.Kept.{left_in, state_in, state_of, IsNotReading, IsNotWriting};
 
 use crate::counts::Refusal;
 use crate::names::{Bytes, NameText};
 
-/// A channel of reading has a copy of the bytes, so that it needs no file to read from.
-#[derive(Drop)]
-pub(crate) enum Channel {
+/// What a channel is open for.
+#[derive(Clone, Copy)]
+pub(crate) enum State {
     Closed,
-    Reading {
-        name: NameText,
-        bytes: Bytes,
-        at: usize,
-    },
-    Writing {
-        name: NameText,
-    },
+    Reading,
+    Writing,
+}
+
+/// A channel over a name. One of reading has a copy of the bytes, so that it needs no file to read from, and keeps it when it
+/// is closed; one of writing has none.
+#[derive(Drop)]
+pub(crate) struct Channel {
+    pub(crate) name: NameText,
+    pub(crate) state: State,
+    pub(crate) bytes: Bytes,
+    pub(crate) at: usize,
 }
 
 /// Whether the next channel would have the last number, which is given to none.
@@ -69,9 +74,9 @@ pub(crate) fn read(
     buf: &mut [u8],
     piece: usize,
 ) -> Option<usize>
-    ensures none { IfNone result ((channels.new ≡ channels.old) × IsNotReading (use_in channels.old number)) }
-    ensures reading { IfSome result (λ n. (name : List ℕ) × (use_in channels.old number ≡ reading name)) }
-    ensures opened { use_in channels.new ≡ use_in channels.old }
+    ensures none { IfNone result ((channels.new ≡ channels.old) × IsNotReading (state_in channels.old number)) }
+    ensures reading { IfSome result (λ n. (name : List ℕ) × (state_in channels.old number ≡ reading name)) }
+    ensures opened { state_in channels.new ≡ state_in channels.old }
     ensures count { IfSome result (λ n. n ≡ min (min (length (left_in channels.old number)) (length buf.old)) piece) }
     ensures left { IfSome result (λ n. ChangesOnly (left_in channels.old) (left_in channels.new) number (drop n (left_in channels.old number))) }
     ensures given { IfSome result (λ n. take n buf.new ≡ take n (left_in channels.old number)) }
@@ -80,44 +85,50 @@ pub(crate) fn read(
     if i >= channels.len() {
         return None;
     }
-    match &mut channels[i] {
-        Channel::Reading { bytes, at, .. } => {
-            let count = copy_piece(rest(bytes.bytes(), *at), buf, piece);
-            *at += count;
+    let channel = &mut channels[i];
+    match channel.state {
+        State::Reading => {
+            let count = copy_piece(rest(channel.bytes.bytes(), channel.at), buf, piece);
+            channel.at += count;
             Some(count)
         }
-        _ => None,
+        State::Closed | State::Writing => None,
     }
 }
 
 /// The name that a channel is open for writing to.
 pub(crate) fn written_name(channels: &[Channel], number: u64) -> Option<&str>
-    ensures some { IfSome result (λ name. use_in channels.now number ≡ writing name.now) }
-    ensures none { IfNone result (IsNotWriting (use_in channels.now number)) }
+    ensures some { IfSome result (λ name. state_in channels.now number ≡ writing name.now) }
+    ensures none { IfNone result (IsNotWriting (state_in channels.now number)) }
 {
     let i = number as usize;
     if i >= channels.len() {
         return None;
     }
-    match &channels[i] {
-        Channel::Writing { name } => Some(name.text()),
-        _ => None,
+    let channel = &channels[i];
+    match channel.state {
+        State::Writing => Some(channel.name.text()),
+        State::Closed | State::Reading => None,
     }
 }
 
-/// Closes a channel, and answers what it was. None where it is not open.
-pub(crate) fn close(channels: &mut [Channel], number: u64) -> Option<Channel>
-    ensures none { IfNone result ((channels.new ≡ channels.old) × (use_in channels.old number ≡ closed)) }
-    ensures was { IfSome result (λ c. (use_of c ≡ use_in channels.old number) × (use_of c ≢ closed)) }
-    ensures opened { IfSome result (λ c. ChangesOnly (use_in channels.old) (use_in channels.new) number closed) }
-    ensures left { IfSome result (λ c. (k : ℕ) → k ≢ number → left_in channels.new k ≡ left_in channels.old k) }
+/// Closes a channel. False where it is not open.
+pub(crate) fn close(channels: &mut [Channel], number: u64) -> bool
+    ensures was_open { IsTrue result ↔ (state_in channels.old number ≢ closed) }
+    ensures unchanged { OnFalse result (channels.new ≡ channels.old) }
+    ensures opened { OnTrue result (ChangesOnly (state_in channels.old) (state_in channels.new) number closed) }
+    ensures left { left_in channels.new ≡ left_in channels.old }
 {
     let i = number as usize;
     if i >= channels.len() {
-        return None;
+        return false;
     }
-    match &channels[i] {
-        Channel::Closed => None,
-        _ => Some(std::mem::replace(&mut channels[i], Channel::Closed)),
+    let channel = &mut channels[i];
+    match channel.state {
+        State::Closed => false,
+        State::Reading | State::Writing => {
+            channel.state = State::Closed;
+            true
+        }
     }
 }

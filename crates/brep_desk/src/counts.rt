@@ -1,7 +1,7 @@
-//! What a desk in memory counts: its calls, its stray calls, its faults, and the faults for want of memory.
+//! What a desk in memory counts: its calls, its stray calls, its calls of writing, its faults, and the faults for want of memory.
 ghost use Rattle.std.specs.Prelude.{◌≡◌, ◌≤◌};
 ghost use Rattle.brep_desk.specs.Causes.{raised, Rose};
-ghost use Rattle.brep_desk.specs.Counting.{short_after, strays_after};
+ghost use Rattle.brep_desk.specs.Counting.{after_call, short_after};
 
 use crate::desk::Failed;
 
@@ -12,26 +12,40 @@ pub(crate) enum Refusal {
     NoMemory,
 }
 
+/// What kind of call begins.
+#[derive(Clone, Copy)]
+pub(crate) struct Call {
+    pub(crate) stray: bool,
+    pub(crate) writing: bool,
+}
+
 /// Each count stands still at the last u64.
 #[derive(Drop)]
 pub(crate) struct Counts {
     pub(crate) calls: u64,
     pub(crate) strays: u64,
+    pub(crate) writing_calls: u64,
     pub(crate) faults: u64,
     pub(crate) short: u64,
 }
 
 impl Counts {
-    /// The number of the call that begins, which may be a stray one.
-    pub(crate) fn next_call(&mut self, stray: bool) -> u64
+    /// The number of the call that begins.
+    pub(crate) fn next_call(&mut self, call: Call) -> u64
         ensures number { result ≡ raised self.old.calls }
-        ensures counted { self.new ≡ record self.old { calls = raised self.old.calls; strays = strays_after stray self.old.strays } }
-        ensures later { self.old.strays ≤ self.new.strays }
+        ensures strays { self.new.strays ≡ after_call call.stray self.old.strays }
+        ensures writing_calls { self.new.writing_calls ≡ after_call call.writing self.old.writing_calls }
+        ensures counted { self.new ≡ record self.old { calls = raised self.old.calls; strays = self.new.strays; writing_calls = self.new.writing_calls } }
+        ensures strays_later { self.old.strays ≤ self.new.strays }
+        ensures writing_later { self.old.writing_calls ≤ self.new.writing_calls }
         ensures enough { self.new.short ≡ self.old.short }
     {
         self.calls = self.calls.saturating_add(1);
-        if stray {
+        if call.stray {
             self.strays = self.strays.saturating_add(1);
+        }
+        if call.writing {
+            self.writing_calls = self.writing_calls.saturating_add(1);
         }
         self.calls
     }
@@ -42,6 +56,7 @@ impl Counts {
         ensures later { self.old.faults ≤ self.new.faults }
         ensures rose { Rose self.old.faults self.new.faults }
         ensures strays { self.new.strays ≡ self.old.strays }
+        ensures writing_calls { self.new.writing_calls ≡ self.old.writing_calls }
         ensures enough { refusal ≡ Refusal.Fault → self.new.short ≡ self.old.short }
     {
         self.faults = self.faults.saturating_add(1);

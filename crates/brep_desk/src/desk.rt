@@ -1,9 +1,10 @@
 //! A desk: named bytes that are read, and names that are written to, over numbered channels.
-ghost use Rattle.std.specs.Prelude.{◌≡◌, ℕ, false, take, length, OnErr, IfOk};
+ghost use Rattle.std.specs.Prelude.{◌≡◌, ℕ, false, true, take, length, OnErr, IfOk};
 ghost use Rattle.brep_desk.specs.Causes.{HasCause};
 ghost use Rattle.brep_desk.specs.Shown.{Shown, Tells, AreTold, Same};
 ghost use Rattle.brep_desk.specs.Calls.{BeginsReading, Reads, BeginsWriting, Writes, Ends};
 ghost use Rattle.brep_desk.specs.Strays.{CountsStrays, is_stray_begin_read, is_stray_read, is_stray_write, is_stray_end};
+ghost use Rattle.brep_desk.specs.WritingCalls.{CountsWritingCall, KeepsWritingCalls, is_end_of_writing};
 
 /// A call of a desk did not succeed.
 #[derive(Clone, Copy, Debug, PartialEq, Eq)]
@@ -15,8 +16,8 @@ pub struct Chan {
     pub number: u64,
 }
 
-/// The outside of a run. Whatever it does is a call of one of these methods. A desk may count
-/// stray calls, which a run in good order never makes.
+/// The outside of a run. Whatever it does is a call of one of these methods. A desk may count stray
+/// calls, which a run in good order never makes, and calls of writing.
 pub trait Desk {
     /// How often the outside has failed. It never falls, and stands still at the last u64.
     ghost faults: { Self → ℕ };
@@ -32,7 +33,8 @@ pub trait Desk {
         ensures cause { HasCause (faults self.old) (faults self.new) result }
         ensures begins { IfOk result (λ c. BeginsReading tells (shows self.old) (shows self.new) name.now c.number) }
         ensures unchanged { OnErr result (Same (shows self.old) (shows self.new)) }
-        ensures strays { CountsStrays tells (shows self.old) (shows self.new) (is_stray_begin_read tells ((shows self.old).held name.now)) };
+        ensures strays { CountsStrays tells (shows self.old) (shows self.new) (is_stray_begin_read tells ((shows self.old).held name.now)) }
+        ensures writing_calls { KeepsWritingCalls tells (shows self.old) (shows self.new) };
 
     /// Reads the next bytes to the front of `buf`, and answers how many. None, into a buffer with
     /// room, is the end of the input.
@@ -40,28 +42,32 @@ pub trait Desk {
         ensures cause { HasCause (faults self.old) (faults self.new) result }
         ensures reads { IfOk result (λ n. Reads tells (shows self.old) (shows self.new) c.number (length buf.old) n (take n buf.new)) }
         ensures unchanged { OnErr result (Same (shows self.old) (shows self.new)) }
-        ensures strays { CountsStrays tells (shows self.old) (shows self.new) (is_stray_read ((shows self.old).opened c.number) (length buf.old)) };
+        ensures strays { CountsStrays tells (shows self.old) (shows self.new) (is_stray_read ((shows self.old).opened c.number) (length buf.old)) }
+        ensures writing_calls { KeepsWritingCalls tells (shows self.old) (shows self.new) };
 
     /// Begins the writing of a name anew: what was written under it before is gone.
     fn begin_write(&mut self, name: &str) -> Result<Chan, Failed>
         ensures cause { HasCause (faults self.old) (faults self.new) result }
         ensures begins { IfOk result (λ c. BeginsWriting tells (shows self.old) (shows self.new) name.now c.number) }
         ensures unchanged { OnErr result (Same (shows self.old) (shows self.new)) }
-        ensures strays { CountsStrays tells (shows self.old) (shows self.new) false };
+        ensures strays { CountsStrays tells (shows self.old) (shows self.new) false }
+        ensures writing_calls { CountsWritingCall tells (shows self.old) (shows self.new) true };
 
     /// Takes bytes from the front of `bytes`, at least one if there is one, and answers how many.
     fn write(&mut self, c: Chan, bytes: &[u8]) -> Result<usize, Failed>
         ensures cause { HasCause (faults self.old) (faults self.new) result }
         ensures writes { IfOk result (λ n. Writes tells (shows self.old) (shows self.new) c.number bytes.now n) }
         ensures unchanged { OnErr result (Same (shows self.old) (shows self.new)) }
-        ensures strays { CountsStrays tells (shows self.old) (shows self.new) (is_stray_write ((shows self.old).opened c.number) (length bytes.now)) };
+        ensures strays { CountsStrays tells (shows self.old) (shows self.new) (is_stray_write ((shows self.old).opened c.number) (length bytes.now)) }
+        ensures writing_calls { CountsWritingCall tells (shows self.old) (shows self.new) true };
 
     /// Closes a channel. Only now is a name that was written whole.
     fn end(&mut self, c: Chan) -> Result<(), Failed>
         ensures cause { HasCause (faults self.old) (faults self.new) result }
         ensures ends { IfOk result (λ _. Ends tells (shows self.old) (shows self.new) c.number) }
         ensures unchanged { OnErr result (Same (shows self.old) (shows self.new)) }
-        ensures strays { CountsStrays tells (shows self.old) (shows self.new) (is_stray_end ((shows self.old).opened c.number)) };
+        ensures strays { CountsStrays tells (shows self.old) (shows self.new) (is_stray_end ((shows self.old).opened c.number)) }
+        ensures writing_calls { CountsWritingCall tells (shows self.old) (shows self.new) (is_end_of_writing ((shows self.old).opened c.number)) };
 
     /// How often the outside has failed.
     fn faults(&self) -> u64

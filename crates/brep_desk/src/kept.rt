@@ -3,10 +3,12 @@ ghost use Rattle.std.specs.Prelude.{◌≡◌, ℕ, List, ◌+◌, ◌≤◌, �
 ghost use Rattle.std.specs.Bool.{OnTrue, OnFalse};
 ghost use Rattle.brep_desk.specs.Shown.{tells_all, closed};
 ghost use Rattle.brep_desk.specs.Calls.{BeginsReading, BeginsWriting, Writes, Ends};
-ghost use Rattle.brep_desk.specs.Kept.{held_in, use_in, shown_by, AllBegun, IsNotWriting};
+ghost use Rattle.brep_desk.specs.Kept.{held_in, state_in, shown_by, AllBegun, IsNotWriting};
 ghost use Rattle.brep_desk.specs.declared.outputs.Output.{Output};
+ghost use Rattle.brep_desk.specs.declared.counts.Counts.{Counts};
+ghost use Rattle.brep_desk.specs.declared.channels.State.TheVariants as states;
 
-use crate::channels::{Channel, close, is_full, open, written_name};
+use crate::channels::{Channel, State, close, is_full, open, written_name};
 use crate::counts::Refusal;
 use crate::names::{Bytes, NameText};
 use crate::outputs::{Output, append, copy_name, finish, held, restart};
@@ -14,7 +16,7 @@ use std::alloc::Global;
 
 /// A channel for reading, at the front of a copy of the bytes.
 fn reader(alloc: Global, name: &str, bytes: &[u8]) -> Result<Channel, Refusal>
-    ensures ok { IfOk result (λ c. c ≡ Channel.Reading name.now bytes.now 0) }
+    ensures ok { IfOk result (λ c. c ≡ record { name = name.now; state = states.Reading; bytes = bytes.now; at = 0 }) }
     ensures short { IfErr result (λ e. e ≡ Refusal.NoMemory) }
 {
     let name = match copy_name(alloc, name) {
@@ -22,8 +24,9 @@ fn reader(alloc: Global, name: &str, bytes: &[u8]) -> Result<Channel, Refusal>
         Err(_) => return Err(Refusal::NoMemory),
     };
     match Vec::from_slice(alloc, bytes) {
-        Ok(bytes) => Ok(Channel::Reading {
+        Ok(bytes) => Ok(Channel {
             name,
+            state: State::Reading,
             bytes: Bytes::of(bytes),
             at: 0,
         }),
@@ -39,7 +42,7 @@ pub(crate) fn begin_reading(
     name: &str,
 ) -> Result<u64, Refusal>
     ensures number { IfOk result (λ k. k ≡ length channels.old.items) }
-    ensures begins { IfOk result (λ k. (os : List Output) (before after : ℕ) → BeginsReading tells_all (shown_by files.now os channels.old.items before) (shown_by files.now os channels.new.items after) name.now k) }
+    ensures begins { IfOk result (λ k. (os : List Output) (before after : Counts) → BeginsReading tells_all (shown_by files.now os channels.old.items before) (shown_by files.now os channels.new.items after) name.now k) }
     ensures count { OnOk result (length channels.new.items ≡ length channels.old.items + 1) }
     ensures unchanged { OnErr result (channels.new.items ≡ channels.old.items) }
     ensures fault { IsErrOf result Refusal.Fault → held_in files.now name.now ≡ None ⊎ 2 ^ 64 - 1 ≤ length channels.old.items }
@@ -66,7 +69,7 @@ pub(crate) fn begin_writing(
     name: &str,
 ) -> Result<u64, Refusal>
     ensures number { IfOk result (λ k. k ≡ length channels.old.items) }
-    ensures begins { IfOk result (λ k. (fs : List (List ℕ × List ℕ)) (before after : ℕ) → BeginsWriting tells_all (shown_by fs outputs.old.items channels.old.items before) (shown_by fs outputs.new.items channels.new.items after) name.now k) }
+    ensures begins { IfOk result (λ k. (fs : List (List ℕ × List ℕ)) (before after : Counts) → BeginsWriting tells_all (shown_by fs outputs.old.items channels.old.items before) (shown_by fs outputs.new.items channels.new.items after) name.now k) }
     ensures count { OnOk result (length channels.new.items ≡ length channels.old.items + 1) }
     ensures outputs_stay { OnErr result (outputs.new.items ≡ outputs.old.items) }
     ensures channels_stay { OnErr result (channels.new.items ≡ channels.old.items) }
@@ -77,7 +80,12 @@ pub(crate) fn begin_writing(
         return Err(Refusal::Fault);
     }
     let channel = match copy_name(alloc, name) {
-        Ok(name) => Channel::Writing { name },
+        Ok(name) => Channel {
+            name,
+            state: State::Writing,
+            bytes: Bytes::of(Vec::new(alloc)),
+            at: 0,
+        },
         Err(_) => return Err(Refusal::NoMemory),
     };
     let number = match open(channels, channel) {
@@ -104,10 +112,10 @@ pub(crate) fn write_over(
     requires begun { AllBegun outputs.old.items channels.now }
     requires some { 0 < piece }
     ensures count { IfOk result (λ n. n ≡ min (length bytes.now) piece) }
-    ensures writes { IfOk result (λ n. (fs : List (List ℕ × List ℕ)) (before after : ℕ) → Writes tells_all (shown_by fs outputs.old.items channels.now before) (shown_by fs outputs.new.items channels.now after) number bytes.now n) }
+    ensures writes { IfOk result (λ n. (fs : List (List ℕ × List ℕ)) (before after : Counts) → Writes tells_all (shown_by fs outputs.old.items channels.now before) (shown_by fs outputs.new.items channels.now after) number bytes.now n) }
     ensures unchanged { OnErr result (outputs.new.items ≡ outputs.old.items) }
-    ensures fault { IsErrOf result Refusal.Fault → IsNotWriting (use_in channels.now number) }
-    ensures due { IsNotWriting (use_in channels.now number) → IsErrOf result Refusal.Fault }
+    ensures fault { IsErrOf result Refusal.Fault → IsNotWriting (state_in channels.now number) }
+    ensures due { IsNotWriting (state_in channels.now number) → IsErrOf result Refusal.Fault }
 {
     let name = match written_name(channels, number) {
         Some(name) => name,
@@ -123,17 +131,13 @@ pub(crate) fn write_over(
 /// Closes a channel, and marks the output of one of writing as whole. False where it is not open.
 pub(crate) fn end_channel(outputs: &mut Vec<Output>, channels: &mut [Channel], number: u64) -> bool
     requires { AllBegun outputs.old.items channels.old }
-    ensures ends { OnTrue result ((fs : List (List ℕ × List ℕ)) (before after : ℕ) → Ends tells_all (shown_by fs outputs.old.items channels.old before) (shown_by fs outputs.new.items channels.new after) number) }
+    ensures ends { OnTrue result ((fs : List (List ℕ × List ℕ)) (before after : Counts) → Ends tells_all (shown_by fs outputs.old.items channels.old before) (shown_by fs outputs.new.items channels.new after) number) }
     ensures outputs_stay { OnFalse result (outputs.new.items ≡ outputs.old.items) }
     ensures channels_stay { OnFalse result (channels.new ≡ channels.old) }
-    ensures fault { IsTrue result ↔ (use_in channels.old number ≢ closed) }
+    ensures fault { IsTrue result ↔ (state_in channels.old number ≢ closed) }
 {
-    match close(channels, number) {
-        None => false,
-        Some(Channel::Writing { name }) => {
-            finish(outputs, name.text());
-            true
-        }
-        Some(_) => true,
+    if let Some(name) = written_name(channels, number) {
+        finish(outputs, name);
     }
+    close(channels, number)
 }

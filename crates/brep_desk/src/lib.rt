@@ -10,12 +10,10 @@ mod names;
 mod outputs;
 mod steps;
 mod strays;
-#[cfg(test)]
-mod tests;
-mod whole;
+mod transfers;
 
 pub use desk::{Chan, Desk, Failed};
 pub use memory::MemoryDesk;
 pub use names::{Bytes, CommandWords, NameText};
 pub use steps::Steps;
-pub use whole::{ReadAll, WriteStop, read_all, write_all};
+pub use transfers::{ReadAll, WriteStop, read_all, write_all};

@@ -3,12 +3,12 @@ ghost use Rattle.std.specs.Prelude.{◌<◌};
 ghost use Rattle.brep_desk.specs.Kept.{AllBegun};
 
 use crate::channels::{Channel, read};
-use crate::counts::{Counts, Refusal};
+use crate::counts::{Call, Counts, Refusal};
 use crate::desk::{Chan, Desk, Failed};
 use crate::kept::{begin_reading, begin_writing, end_channel, write_over};
 use crate::names::{Bytes, NameText};
 use crate::outputs::{Output, is_whole, written};
-use crate::strays::{stray_begin_read, stray_end, stray_read, stray_write};
+use crate::strays::{end_of_writing, stray_begin_read, stray_end, stray_read, stray_write};
 use std::alloc::Global;
 
 /// Files that are held in memory, and outputs that are written to it. The calls of the trait,
@@ -53,6 +53,7 @@ impl MemoryDesk {
             counts: Counts {
                 calls: 0,
                 strays: 0,
+                writing_calls: 0,
                 faults: 0,
                 short: 0,
             },
@@ -82,12 +83,13 @@ impl MemoryDesk {
 }
 
 impl Desk for MemoryDesk {
-    ghost use Rattle.std.specs.Prelude.{◌≡◌, ◌+◌, ◌⊎◌, false, take, length, min, OnErr, OnOk, IfOk, IsErr};
+    ghost use Rattle.std.specs.Prelude.{◌≡◌, ◌+◌, ◌⊎◌, false, true, take, length, min, OnErr, OnOk, IfOk, IsErr};
     ghost use Rattle.brep_desk.specs.Causes.{HasCause};
     ghost use Rattle.brep_desk.specs.Shown.{tells_all, Same};
     ghost use Rattle.brep_desk.specs.Calls.{BeginsReading, Reads, BeginsWriting, Writes, Ends};
     ghost use Rattle.brep_desk.specs.Strays.{CountsStrays, is_stray_begin_read, is_stray_read, is_stray_write, is_stray_end};
-    ghost use Rattle.brep_desk.specs.Counting.{strays_after};
+    ghost use Rattle.brep_desk.specs.WritingCalls.{CountsWritingCall, KeepsWritingCalls, is_end_of_writing};
+    ghost use Rattle.brep_desk.specs.Counting.{after_call};
     ghost use Rattle.brep_desk.specs.Memory.{shown_of, faults_of, short_of, channels_of, piece_of, Counted, RanShort, CannotBeginReading, CannotRead, CannotBeginWriting, CannotWrite, CannotEnd};
 
     ghost faults = { faults_of };
@@ -102,7 +104,9 @@ impl Desk for MemoryDesk {
         ensures begins { IfOk result (λ c. BeginsReading tells_all (shown_of self.old) (shown_of self.new) name.now c.number) }
         ensures unchanged { OnErr result (Same (shown_of self.old) (shown_of self.new)) }
         ensures strays { CountsStrays tells_all (shown_of self.old) (shown_of self.new) (is_stray_begin_read tells_all ((shown_of self.old).held name.now)) }
-        ensures one_stray { (shown_of self.new).strays ≡ strays_after (is_stray_begin_read tells_all ((shown_of self.old).held name.now)) (shown_of self.old).strays }
+        ensures writing_calls { KeepsWritingCalls tells_all (shown_of self.old) (shown_of self.new) }
+        ensures one_stray { (shown_of self.new).strays ≡ after_call (is_stray_begin_read tells_all ((shown_of self.old).held name.now)) (shown_of self.old).strays }
+        ensures one_writing_call { (shown_of self.new).writing_calls ≡ after_call false (shown_of self.old).writing_calls }
         ensures counted { Counted self.old self.new result }
         ensures due { CannotBeginReading self.old name.now → IsErr result × (short_of self.new ≡ short_of self.old) }
         ensures refused { OnErr result (CannotBeginReading self.old name.now ⊎ RanShort self.old self.new) }
@@ -111,7 +115,10 @@ impl Desk for MemoryDesk {
         ensures same_next { OnErr result (channels_of self.new ≡ channels_of self.old) }
     {
         let stray = stray_begin_read(&self.files, name);
-        let call = self.counts.next_call(stray);
+        let call = self.counts.next_call(Call {
+            stray,
+            writing: false,
+        });
         if self.failing.contains(&call) {
             return Err(self.counts.refuse(Refusal::Fault));
         }
@@ -127,7 +134,9 @@ impl Desk for MemoryDesk {
         ensures reads { IfOk result (λ n. Reads tells_all (shown_of self.old) (shown_of self.new) c.number (length buf.old) n (take n buf.new)) }
         ensures unchanged { OnErr result (Same (shown_of self.old) (shown_of self.new)) }
         ensures strays { CountsStrays tells_all (shown_of self.old) (shown_of self.new) (is_stray_read ((shown_of self.old).opened c.number) (length buf.old)) }
-        ensures one_stray { (shown_of self.new).strays ≡ strays_after (is_stray_read ((shown_of self.old).opened c.number) (length buf.old)) (shown_of self.old).strays }
+        ensures writing_calls { KeepsWritingCalls tells_all (shown_of self.old) (shown_of self.new) }
+        ensures one_stray { (shown_of self.new).strays ≡ after_call (is_stray_read ((shown_of self.old).opened c.number) (length buf.old)) (shown_of self.old).strays }
+        ensures one_writing_call { (shown_of self.new).writing_calls ≡ after_call false (shown_of self.old).writing_calls }
         ensures counted { Counted self.old self.new result }
         ensures due { CannotRead self.old c.number → IsErr result }
         ensures refused { OnErr result (CannotRead self.old c.number) }
@@ -136,7 +145,10 @@ impl Desk for MemoryDesk {
         ensures same_next { channels_of self.new ≡ channels_of self.old }
     {
         let stray = stray_read(&self.channels, c.number, buf.len());
-        let call = self.counts.next_call(stray);
+        let call = self.counts.next_call(Call {
+            stray,
+            writing: false,
+        });
         if self.failing.contains(&call) {
             return Err(self.counts.refuse(Refusal::Fault));
         }
@@ -152,7 +164,9 @@ impl Desk for MemoryDesk {
         ensures begins { IfOk result (λ c. BeginsWriting tells_all (shown_of self.old) (shown_of self.new) name.now c.number) }
         ensures unchanged { OnErr result (Same (shown_of self.old) (shown_of self.new)) }
         ensures strays { CountsStrays tells_all (shown_of self.old) (shown_of self.new) false }
-        ensures one_stray { (shown_of self.new).strays ≡ strays_after false (shown_of self.old).strays }
+        ensures writing_calls { CountsWritingCall tells_all (shown_of self.old) (shown_of self.new) true }
+        ensures one_stray { (shown_of self.new).strays ≡ after_call false (shown_of self.old).strays }
+        ensures one_writing_call { (shown_of self.new).writing_calls ≡ after_call true (shown_of self.old).writing_calls }
         ensures counted { Counted self.old self.new result }
         ensures due { CannotBeginWriting self.old → IsErr result × (short_of self.new ≡ short_of self.old) }
         ensures refused { OnErr result (CannotBeginWriting self.old ⊎ RanShort self.old self.new) }
@@ -160,7 +174,10 @@ impl Desk for MemoryDesk {
         ensures next { OnOk result (channels_of self.new ≡ channels_of self.old + 1) }
         ensures same_next { OnErr result (channels_of self.new ≡ channels_of self.old) }
     {
-        let call = self.counts.next_call(false);
+        let call = self.counts.next_call(Call {
+            stray: false,
+            writing: true,
+        });
         if self.failing.contains(&call) {
             return Err(self.counts.refuse(Refusal::Fault));
         }
@@ -176,7 +193,9 @@ impl Desk for MemoryDesk {
         ensures writes { IfOk result (λ n. Writes tells_all (shown_of self.old) (shown_of self.new) c.number bytes.now n) }
         ensures unchanged { OnErr result (Same (shown_of self.old) (shown_of self.new)) }
         ensures strays { CountsStrays tells_all (shown_of self.old) (shown_of self.new) (is_stray_write ((shown_of self.old).opened c.number) (length bytes.now)) }
-        ensures one_stray { (shown_of self.new).strays ≡ strays_after (is_stray_write ((shown_of self.old).opened c.number) (length bytes.now)) (shown_of self.old).strays }
+        ensures writing_calls { CountsWritingCall tells_all (shown_of self.old) (shown_of self.new) true }
+        ensures one_stray { (shown_of self.new).strays ≡ after_call (is_stray_write ((shown_of self.old).opened c.number) (length bytes.now)) (shown_of self.old).strays }
+        ensures one_writing_call { (shown_of self.new).writing_calls ≡ after_call true (shown_of self.old).writing_calls }
         ensures counted { Counted self.old self.new result }
         ensures due { CannotWrite self.old c.number → IsErr result × (short_of self.new ≡ short_of self.old) }
         ensures refused { OnErr result (CannotWrite self.old c.number ⊎ RanShort self.old self.new) }
@@ -184,7 +203,10 @@ impl Desk for MemoryDesk {
         ensures same_next { channels_of self.new ≡ channels_of self.old }
     {
         let stray = stray_write(&self.channels, c.number, bytes.len());
-        let call = self.counts.next_call(stray);
+        let call = self.counts.next_call(Call {
+            stray,
+            writing: true,
+        });
         if self.failing.contains(&call) {
             return Err(self.counts.refuse(Refusal::Fault));
         }
@@ -206,7 +228,9 @@ impl Desk for MemoryDesk {
         ensures ends { IfOk result (λ _. Ends tells_all (shown_of self.old) (shown_of self.new) c.number) }
         ensures unchanged { OnErr result (Same (shown_of self.old) (shown_of self.new)) }
         ensures strays { CountsStrays tells_all (shown_of self.old) (shown_of self.new) (is_stray_end ((shown_of self.old).opened c.number)) }
-        ensures one_stray { (shown_of self.new).strays ≡ strays_after (is_stray_end ((shown_of self.old).opened c.number)) (shown_of self.old).strays }
+        ensures writing_calls { CountsWritingCall tells_all (shown_of self.old) (shown_of self.new) (is_end_of_writing ((shown_of self.old).opened c.number)) }
+        ensures one_stray { (shown_of self.new).strays ≡ after_call (is_stray_end ((shown_of self.old).opened c.number)) (shown_of self.old).strays }
+        ensures one_writing_call { (shown_of self.new).writing_calls ≡ after_call (is_end_of_writing ((shown_of self.old).opened c.number)) (shown_of self.old).writing_calls }
         ensures counted { Counted self.old self.new result }
         ensures due { CannotEnd self.old c.number → IsErr result }
         ensures refused { OnErr result (CannotEnd self.old c.number) }
@@ -214,7 +238,8 @@ impl Desk for MemoryDesk {
         ensures same_next { channels_of self.new ≡ channels_of self.old }
     {
         let stray = stray_end(&self.channels, c.number);
-        let call = self.counts.next_call(stray);
+        let writing = end_of_writing(&self.channels, c.number);
+        let call = self.counts.next_call(Call { stray, writing });
         if self.failing.contains(&call) {
             return Err(self.counts.refuse(Refusal::Fault));
         }
@@ -229,5 +254,5 @@ impl Desk for MemoryDesk {
         self.counts.faults
     }
 
-    ghost told = { record { held = λ h. h; left = λ h. h; written = λ h. h; ended = λ h. h; strays = λ h. h } };
+    ghost told = { record { held = λ h. h; left = λ h. h; written = λ h. h; ended = λ h. h; strays = λ h. h; writing_calls = λ h. h } };
 }

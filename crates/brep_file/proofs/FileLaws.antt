@@ -28,7 +28,7 @@ use Rattle.mesh_tables.specs.Sound.{IsSoundPolygon, IsSoundPolygonOn, IsSoundMes
 use Rattle.mesh_tables.specs.Spelling.{spell_polygon, spell_polygon_on, spell_mesh}
 use Rattle.tshape_data.specs.Laws.{HeadsAreExact}
 use Rattle.tshape_data.specs.RepReading.{most_reps}
-use Rattle.tshape_data.specs.declared.bounds.Bounds.{Bounds as HeadBounds}
+use Rattle.tshape_data.specs.declared.head_bounds.HeadBounds.{HeadBounds}
 use Rattle.expansion_laws.specs.Expansion.{IsNumberOf}
 use Rattle.brep_file.specs.declared.uses.FileUse.{FileUse}
 use Rattle.brep_file.specs.declared.file.File.{File}
@@ -36,7 +36,7 @@ use Rattle.brep_file.specs.Sound.{Limits, IsSoundTable, sizes_of}
 use Rattle.brep_file.specs.Spelling.{section, spell_use, spell_record, spell_file}
 use Rattle.brep_file.specs.SectionReading.{heading_at, section_at, locations_at}
 use Rattle.brep_file.specs.FileReading.{begun, from_root, from_records, from_meshes, from_surfaces, from_polygons_on, from_polygons, from_curves, from_curve2s, from_locations}
-use Rattle.brep_file.specs.RecordReading.{Bounds, SoFar, nothing_read, records_from, use_of, root_named, root_located, root_at}
+use Rattle.brep_file.specs.RecordReading.{RecordBounds, SoFar, nothing_read, records_from, use_of, root_named, root_located, root_at}
 use Rattle.brep_file.proofs.Basics.{and_true, both}
 use Rattle.brep_file.proofs.LocationLaws.{FitLocations, locations_section}
 use Rattle.brep_file.proofs.SectionLaws.{heading_takes, heading_again, section_is_exact}
@@ -91,7 +91,7 @@ abbrev pub FitsTable : {A : Type 0} → (A → Type 0) → Limits → List A →
 FitsTable Fits limits xs = IsSoundTable Fits xs × (length xs ≤ limits.entries)
 
 -- of which version a file is, how many entries each table has, how many records there are, and how many uses they may have
-abbrev pub bounds_of : ℕ → HeadBounds → ℕ → ℕ → Bounds
+abbrev pub bounds_of : ℕ → HeadBounds → ℕ → ℕ → RecordBounds
 bounds_of version tables n uses = record { tables = tables; version = version; records = n; uses = uses }
 
 pub record FitRecords (reps : ℕ) (limits : Limits) (f : File) : Type 0 where
@@ -236,7 +236,7 @@ module _ (forms : FormsAreExact) (fields : FieldsAreExact) (names : SignsAndName
   unfolding from_records
   records_from_takes f ts rest g e =
       let h = bind_ok (heading_at (codes "TShapes") limits.records ts) (λ n. records_from (bounds_of f.version (sizes_of f) n.0 limits.uses) nothing_read n.0 n.1 >>= λ x. from_root (record f { records = x.0.records }) x.1) (g, rest) e in
-      let b : Bounds = bounds_of f.version (sizes_of f) h.0.0 limits.uses in
+      let b : RecordBounds = bounds_of f.version (sizes_of f) h.0.0 limits.uses in
       let r = bind_ok (records_from b nothing_read h.0.0 h.0.1) (λ x. from_root (record f { records = x.0.records }) x.1) (g, rest) h.2 in
       let head = heading_takes fields (codes "TShapes") limits.records ts h.0.1 h.0.0 h.1 in
       let read = records_takes forms fields names heads b h.0.0 nothing_read h.0.1 r.0.1 r.0.0 (omega arith) (omega arith) r.1 in
@@ -256,7 +256,7 @@ module _ (forms : FormsAreExact) (fields : FieldsAreExact) (names : SignsAndName
       let spelled : Begins h.0.1 (flat_map (spell_record g.version) g.records) r.0.1 = subst (λ (v : ℕ). Begins h.0.1 (flat_map (spell_record v) g.records) r.0.1) version of_version in
       let fit : FitAll most_reps b nothing_read g.records = subst (λ rs. FitAll most_reps b nothing_read rs) same read.fit in (
         Begins-then ts (section (codes "TShapes") (spell_record g.version) g.records) r.0.1 (spell_use g.root) rest (Begins-then ts (codes "TShapes" ∷ decimal (length g.records) ∷ []) h.0.1 (flat_map (spell_record g.version) g.records) r.0.1 heading spelled) end.0,
-        (record { countable = subst (λ (n : ℕ). n < 10 ^ 18) count head.1; within = subst (λ (n : ℕ). n ≤ limits.records) count head.2; fit = subst (λ (c : Bounds). FitAll most_reps c nothing_read g.records) bounds fit }, end.1),
+        (record { countable = subst (λ (n : ℕ). n < 10 ^ 18) count head.1; within = subst (λ (n : ℕ). n ≤ limits.records) count head.2; fit = subst (λ (c : RecordBounds). FitAll most_reps c nothing_read g.records) bounds fit }, end.1),
         subst (λ rs. KeepsRoot (record f { records = rs }) g) (sym kept) end.2,
       )
 

@@ -26,14 +26,14 @@ use Rattle.mesh_tables.specs.Sound.{IsSoundPolygon, IsSoundPolygonOn, IsSoundMes
 use Rattle.mesh_tables.specs.Spelling.{spell_polygon, spell_polygon_on, spell_mesh}
 use Rattle.tshape_data.specs.Laws.{HeadsTell}
 use Rattle.tshape_data.specs.Spelling.{spell_head}
-use Rattle.tshape_data.specs.declared.bounds.Bounds.{Bounds as HeadBounds}
+use Rattle.tshape_data.specs.declared.head_bounds.HeadBounds.{HeadBounds}
 use Rattle.tshape_data.specs.declared.head.Head.{Head}
 use Rattle.brep_file.specs.declared.uses.FileUse.{FileUse}
 use Rattle.brep_file.specs.declared.records.Record.{Record}
 use Rattle.brep_file.specs.declared.file.File.{File}
 use Rattle.brep_file.specs.Sound.{Limits, sizes_of}
 use Rattle.brep_file.specs.Spelling.{section, spell_use, spell_record, spell_file}
-use Rattle.brep_file.specs.RecordReading.{Bounds, Gathered, SoFar, none_gathered, nothing_read, root_at, uses_from}
+use Rattle.brep_file.specs.RecordReading.{RecordBounds, Gathered, SoFar, none_gathered, nothing_read, root_at, uses_from}
 use Rattle.brep_file.specs.SectionReading.{locations_at, section_at}
 use Rattle.brep_file.proofs.LocationLaws.{FitLocations, locations_section}
 use Rattle.brep_file.proofs.SectionLaws.{heading_again, section_is_exact}
@@ -64,7 +64,7 @@ module _ {A : Type 0} (read : List Token → Read A) (spell : A → List (List �
 
 -- ---- records
 
-module _ (forms : FormsAreExact) (fields : FieldsAreExact) (names : SignsAndNamesTell) (tell : HeadsTell) (b : Bounds) (reps : ℕ) where
+module _ (forms : FormsAreExact) (fields : FieldsAreExact) (names : SignsAndNamesTell) (tell : HeadsTell) (b : RecordBounds) (reps : ℕ) where
   abbrev made : Head → List FileUse → Record
   made h us = record { head = h; uses = us }
 
@@ -154,7 +154,7 @@ module _ (forms : FormsAreExact) (fields : FieldsAreExact) (names : SignsAndName
       ap (λ (v : ℕ). bounds_of v (sizes_of g) (length g.records) limits.uses) (sym alike.version)
       ∙ ap (λ (t : HeadBounds). bounds_of f.version t (length g.records) limits.uses) (sym (alike_sizes f g alike))
       ∙ ap (λ (n : ℕ). bounds_of f.version (sizes_of f) n limits.uses) (sym count) in
-      let fit = subst (λ (c : Bounds). FitAll reps c nothing_read g.records) bounds fit_g.fit in
+      let fit = subst (λ (c : RecordBounds). FitAll reps c nothing_read g.records) bounds fit_g.fit in
       let begins = subst (λ (v : ℕ). Begins parts_f.0 (flat_map (spell_record v) g.records) whole_g.0) (sym alike.version) (subst (λ (m : List Token). Begins m (flat_map (spell_record g.version) g.records) whole_g.0) (sym between) parts_g.2) in
       let records = one_list forms fields names tell (bounds_of f.version (sizes_of f) (length f.records) limits.uses) reps nothing_read f.records g.records parts_f.0 whole_f.0 whole_g.0 count fit_f.fit fit parts_f.2 begins in
       let end = subst (λ (m : List Token). Begins m (spell_use g.root) other) (sym records.1) whole_g.2 in

@@ -15,13 +15,13 @@ use Rattle.brep_file.specs.declared.uses.FileUse.{FileUse}
 use Rattle.brep_file.specs.declared.records.Record.{Record}
 use Rattle.brep_file.specs.Spelling.{spell_record}
 use Rattle.brep_file.specs.Many.{many_from}
-use Rattle.brep_file.specs.RecordReading.{Bounds, none_gathered, uses_from, SoFar, with_record, used, record_at}
+use Rattle.brep_file.specs.RecordReading.{RecordBounds, none_gathered, uses_from, SoFar, with_record, used, record_at}
 use Rattle.brep_file.proofs.UseLaws.{FitsUse, with_uses, with_uses-uses, spell_uses, uses_takes, uses_again}
 
 -- ---- what is to be shown of records, given what was read before
 
 -- where the records may have so many representations
-pub record FitsRecord (most : ℕ) (b : Bounds) (s : SoFar) (r : Record) : Type 0 where
+pub record FitsRecord (most : ℕ) (b : RecordBounds) (s : SoFar) (r : Record) : Type 0 where
   pub sound : IsSoundHead (sizes b.tables) b.version r.head
   pub uses : AllByRecursion (FitsUse b.tables.locations b.records r.head.kind s.seen) r.uses
   pub few : s.uses + length r.uses ≤ b.uses
@@ -34,7 +34,7 @@ abbrev pub after_all : ℕ → SoFar → List Record → SoFar
 after_all n s [] = s
 after_all n s (r ∷ rs) = after_all n (after n s r) rs
 
-abbrev pub FitAll : ℕ → Bounds → SoFar → List Record → Type 0
+abbrev pub FitAll : ℕ → RecordBounds → SoFar → List Record → Type 0
 FitAll most b s [] = Unit {0}
 FitAll most b s (r ∷ rs) = FitsRecord most b s r × FitAll most b (after b.records s r) rs
 
@@ -50,20 +50,20 @@ after_all-records n s (r ∷ rs) = after_all-records n (after n s r) rs ∙ ap (
 
 -- ---- one record
 
-pub record IsRead (b : Bounds) (s : SoFar) (ts : List Token) (x : SoFar) (rest : List Token) : Type 0 where
+pub record IsRead (b : RecordBounds) (s : SoFar) (ts : List Token) (x : SoFar) (rest : List Token) : Type 0 where
   pub one : Record
   pub spelled : Begins ts (spell_record b.version one) rest
   pub fits : FitsRecord most_reps b s one
   pub result : x ≡ after b.records s one
 
-pub record AreRead (b : Bounds) (count : ℕ) (s : SoFar) (ts : List Token) (x : SoFar) (rest : List Token) : Type 0 where
+pub record AreRead (b : RecordBounds) (count : ℕ) (s : SoFar) (ts : List Token) (x : SoFar) (rest : List Token) : Type 0 where
   pub all : List Record
   pub many : length all ≡ count
   pub spelled : Begins ts (flat_map (spell_record b.version) all) rest
   pub fit : FitAll most_reps b s all
   pub result : x ≡ after_all b.records s all
 
-module _ (forms : FormsAreExact) (fields : FieldsAreExact) (names : SignsAndNamesTell) (heads : HeadsAreExact) (b : Bounds) where
+module _ (forms : FormsAreExact) (fields : FieldsAreExact) (names : SignsAndNamesTell) (heads : HeadsAreExact) (b : RecordBounds) where
   record_takes : (s : SoFar) (ts rest : List Token) (x : SoFar) → s.uses ≤ b.uses → s.reps ≤ most_reps → record_at b s ts ≡ Ok (x, rest) → IsRead b s ts x rest
   record_takes s ts rest x within few e =
       let h = bind_ok (head_at (record b.tables { reps = s.reps }) b.version ts) (λ head. used s head.0 (uses_from b s head.0.kind none_gathered head.1)) (x, rest) e in

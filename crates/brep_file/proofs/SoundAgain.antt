@@ -15,7 +15,7 @@ use Rattle.brep_file.specs.declared.file.File.{File}
 use Rattle.brep_file.specs.PlainRecords.{record_of}
 use Rattle.brep_file.specs.Seen.{Seen}
 use Rattle.brep_file.specs.Sound.{Limits, IsWithin, IsUse, IsSound, reps_in, sizes_of}
-use Rattle.brep_file.specs.RecordReading.{Bounds, Gathered, none_gathered, SoFar, nothing_read}
+use Rattle.brep_file.specs.RecordReading.{RecordBounds, Gathered, none_gathered, SoFar, nothing_read}
 use Rattle.brep_file.proofs.UseLaws.{seen_depth, FitsUse, with_use, with_uses}
 use Rattle.brep_file.proofs.RecordLaws.{FitsRecord, FitAll, after, after-uses}
 use Rattle.brep_file.proofs.FileLaws.{FitFile, FitRecords, FitsEnd, bounds_of}
@@ -74,7 +74,7 @@ module _ (names : SignsAndNamesTell) (f : File) (sound : IsSound f) where
         (use_fits u are.0 (omega (arith, least, shallow)), uses_fit us (with_use n seen g u) are.1 shallow)
 
   module _ (reps uses : ℕ) where
-    abbrev b : Bounds
+    abbrev b : RecordBounds
     b = bounds_of f.version (sizes_of f) n uses
 
     record_fits : (k : ℕ) (rs rest : List Record) (s : SoFar) (r : Record) → rs ++ r ∷ rest ≡ f.records → length rest ≡ k → (tells : Tells f.locations n (suc k) rs s.seen) → s.uses + length r.uses ≤ uses → s.reps + rep_count r.head.payload ≤ reps

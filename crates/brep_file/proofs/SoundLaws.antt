@@ -19,7 +19,7 @@ use Rattle.brep_file.specs.declared.file.File.{File}
 use Rattle.brep_file.specs.Seen.{Seen}
 use Rattle.brep_file.specs.Sound.{Limits, IsWithin, IsUse, IsRecord, IsSound, AreSoundTables, reps_in, sizes_of}
 use Rattle.brep_file.specs.Spelling.{spell_file}
-use Rattle.brep_file.specs.RecordReading.{Bounds, Gathered, none_gathered, SoFar, nothing_read}
+use Rattle.brep_file.specs.RecordReading.{RecordBounds, Gathered, none_gathered, SoFar, nothing_read}
 use Rattle.brep_file.proofs.Basics.{some_is}
 use Rattle.brep_file.proofs.UseLaws.{seen_depth, FitsUse, with_use, with_uses}
 use Rattle.brep_file.proofs.RecordLaws.{FitsRecord, FitAll, after, after-uses}
@@ -101,7 +101,7 @@ module _ (names : SignsAndNamesTell) (f : File) where
     depths : (number : ℕ) (r : Record) → k < number → number ≤ n → slice_get rs (n - number) ≡ Some r → depth (tree_in f.locations k rs number) ≤ 512
 
   module _ (reps uses : ℕ) where
-    abbrev b : Bounds
+    abbrev b : RecordBounds
     b = bounds_of f.version (sizes_of f) n uses
 
     one_sound : (k : ℕ) (rs rest : List Record) (s : SoFar) (r : Record) → rs ++ r ∷ rest ≡ f.records → AreSound (suc k) rs s.seen → FitsRecord reps b s r → AreSound k (rs ++ r ∷ []) (after n s r).seen

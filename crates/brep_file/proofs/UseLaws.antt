@@ -24,7 +24,7 @@ use Rattle.brep_file.specs.declared.uses.FileUse.{FileUse}
 use Rattle.brep_file.specs.declared.reader.state.Named.{Named}
 use Rattle.brep_file.specs.Seen.{Seen}
 use Rattle.brep_file.specs.Spelling.{spell_use}
-use Rattle.brep_file.specs.RecordReading.{Bounds, Gathered, SoFar, signed_number, use_of, if_above, above_at, fitting, named, named_at, gathered, is_star, uses_from, located}
+use Rattle.brep_file.specs.RecordReading.{RecordBounds, Gathered, SoFar, signed_number, use_of, if_above, above_at, fitting, named, named_at, gathered, is_star, uses_from, located}
 use Rattle.brep_file.proofs.Basics.{and_true, branch_ok, chosen, some_is}
 
 -- ---- signs joined to numbers
@@ -84,7 +84,7 @@ with_uses-uses n seen g (u ∷ us) = with_uses-uses n seen (with_use n seen g u)
 
 -- ---- the record that a token names
 
-pub record Names (b : Bounds) (seen : List Seen) (parent : Kind) (uses : ℕ) (text : List ℕ) (u : Named) : Type 0 where
+pub record Names (b : RecordBounds) (seen : List Seen) (parent : Kind) (uses : ℕ) (text : List ℕ) (u : Named) : Type 0 where
   pub text_is : text ≡ use_text u.turn u.number
   pub small : u.number < 10 ^ 18
   pub from : 1 ≤ u.number
@@ -119,7 +119,7 @@ module _ (forms : FormsAreExact) where
       let is = (forms.numbers bs number).0 s.1 in
       (ap (λ (c : ℕ). c ∷ bs) (turn_signed b turn s.0) ∙ ap (λ (d : List ℕ). sign_of turn ∷ d) is.spelled, is.small)
 
-  named_takes : (b : Bounds) (seen : List Seen) (parent : Kind) (uses : ℕ) (t : Token) (o : Option (Turn × ℕ)) → use_of t.text ≡ o → (u : Named) → named_at b seen parent uses t o ≡ Ok u → Names b seen parent uses t.text u
+  named_takes : (b : RecordBounds) (seen : List Seen) (parent : Kind) (uses : ℕ) (t : Token) (o : Option (Turn × ℕ)) → use_of t.text ≡ o → (u : Named) → named_at b seen parent uses t o ≡ Ok u → Names b seen parent uses t.text u
   named_takes b seen parent uses t None is u e = absurd cc
   named_takes b seen parent uses t (Some s) is u e =
       let above = above_at b.records seen t s.1 in
@@ -149,7 +149,7 @@ module _ (forms : FormsAreExact) where
     pub use_again : (turn : Turn) (number : ℕ) → number < 10 ^ 18 → use_of (use_text turn number) ≡ Some (turn, number)
     use_again turn number small = rw (names.signs turn, (forms.numbers (decimal number) number).1 (record { small = small; spelled = refl })) refl
 
-    named_again : (b : Bounds) (seen : List Seen) (parent : Kind) (uses : ℕ) (t : Token) (u : FileUse) → t.text ≡ use_text u.turn u.number → (fits : FitsUse b.tables.locations b.records parent seen u) → uses < b.uses
+    named_again : (b : RecordBounds) (seen : List Seen) (parent : Kind) (uses : ℕ) (t : Token) (u : FileUse) → t.text ≡ use_text u.turn u.number → (fits : FitsUse b.tables.locations b.records parent seen u) → uses < b.uses
         → named_at b seen parent uses t (use_of t.text) ≡ Ok (record { turn = u.turn; number = u.number; child = fits.child })
     named_again b seen parent uses t u text fits few =
         let found : slice_get seen (b.records - u.number) ≡ Some fits.child = (let inside : seen_at b.records seen u.number ≡ slice_get seen (b.records - u.number) = rw (le-leb u.number b.records fits.to) refl in sym inside ∙ fits.found) in
@@ -160,14 +160,14 @@ module _ (forms : FormsAreExact) where
 abbrev pub spell_uses : List FileUse → List (List ℕ)
 spell_uses us = flat_map spell_use us ++ codes "*" ∷ []
 
-pub record AreTaken (b : Bounds) (s : SoFar) (parent : Kind) (g : Gathered) (ts : List Token) (x : Gathered) (rest : List Token) : Type 0 where
+pub record AreTaken (b : RecordBounds) (s : SoFar) (parent : Kind) (g : Gathered) (ts : List Token) (x : Gathered) (rest : List Token) : Type 0 where
   pub taken : List FileUse
   pub spelled : Begins ts (spell_uses taken) rest
   pub fits : AllByRecursion (FitsUse b.tables.locations b.records parent s.seen) taken
   pub few : (s.uses + length g.uses) + length taken ≤ b.uses
   pub result : x ≡ with_uses b.records s.seen g taken
 
-star_first : (b : Bounds) (s : SoFar) (parent : Kind) (g : Gathered) (t : Token) (ts : List Token) (x : Gathered) (rest : List Token) → s.uses + length g.uses ≤ b.uses → is_star t.text ≡ true → g ≡ x → ts ≡ rest → AreTaken b s parent g (t ∷ ts) x rest
+star_first : (b : RecordBounds) (s : SoFar) (parent : Kind) (g : Gathered) (t : Token) (ts : List Token) (x : Gathered) (rest : List Token) → s.uses + length g.uses ≤ b.uses → is_star t.text ≡ true → g ≡ x → ts ≡ rest → AreTaken b s parent g (t ∷ ts) x rest
 star_first b s parent g t ts x rest within star is done = record {
   taken = [];
   spelled = (star_is t.text star, done);
@@ -180,7 +180,7 @@ star_first b s parent g t ts x rest within star is done = record {
 abbrev made_use : Named → ℕ → FileUse
 made_use u location = record { turn = u.turn; number = u.number; location = location }
 
-use_first : (b : Bounds) (s : SoFar) (parent : Kind) (g : Gathered) (t t2 : Token) (ts : List Token) (x : Gathered) (rest : List Token) (u : Named) (location : ℕ)
+use_first : (b : RecordBounds) (s : SoFar) (parent : Kind) (g : Gathered) (t t2 : Token) (ts : List Token) (x : Gathered) (rest : List Token) (u : Named) (location : ℕ)
     → Names b s.seen parent (s.uses + length g.uses) t.text u → t2.text ≡ decimal location → location ≤ b.tables.locations → location < 10 ^ 18
     → AreTaken b s parent (gathered g u location) ts x rest → AreTaken b s parent g (t ∷ t2 ∷ ts) x rest
 use_first b s parent g t t2 ts x rest u location is text within small others =
@@ -204,7 +204,7 @@ no_tokens A = Err more
 none_located : {A : Type 0} {y : A} → no_tokens A ≡ Ok y → ⊥
 none_located e = absurd cc
 
-module _ (forms : FormsAreExact) (fields : FieldsAreExact) (b : Bounds) (s : SoFar) (parent : Kind) where
+module _ (forms : FormsAreExact) (fields : FieldsAreExact) (b : RecordBounds) (s : SoFar) (parent : Kind) where
   pub uses_takes : (g : Gathered) (ts rest : List Token) (x : Gathered) → s.uses + length g.uses ≤ b.uses → uses_from b s parent g ts ≡ Ok (x, rest) → AreTaken b s parent g ts x rest
   uses_takes g [] rest x within e = absurd cc
   uses_takes g (t ∷ []) rest x within e =

@@ -10,9 +10,9 @@ use Rattle.tshape_data.specs.Sound.{rep_count}
 use Rattle.tshape_data.specs.declared.head.Head.{Head}
 use Rattle.tshape_data.specs.declared.reader.HeadReader.{HeadReader}
 use Rattle.brep_file.specs.Many.{many_left}
-use Rattle.brep_file.specs.RecordReading.{Bounds, Gathered, SoFar, located, record_at, root_at, root_located, used, uses_from}
+use Rattle.brep_file.specs.RecordReading.{RecordBounds, Gathered, SoFar, located, record_at, root_at, root_located, used, uses_from}
 use Rattle.brep_file.specs.declared.uses.FileUse.{FileUse}
-use Rattle.brep_file.specs.declared.reader.state.Bounds.{Bounds as HeldBounds}
+use Rattle.brep_file.specs.declared.reader.state.RecordBounds.{RecordBounds as HeldBounds}
 use Rattle.brep_file.specs.declared.reader.state.Gathered.{Gathered as HeldGathered}
 use Rattle.brep_file.specs.declared.reader.state.Named.{Named}
 use Rattle.brep_file.specs.declared.reader.state.SoFar.{SoFar as HeldSoFar}
@@ -36,7 +36,7 @@ Says read (Err f) = read ≡ Err (fault f)
 abbrev pub most_uses : ℕ
 most_uses = 16777216
 
-abbrev pub bounds_of : HeldBounds → Bounds
+abbrev pub bounds_of : HeldBounds → RecordBounds
 bounds_of b = record { tables = b.tables; version = b.version; records = b.records; uses = most_uses }
 
 abbrev pub gathered_of : HeldGathered → Gathered
@@ -51,13 +51,13 @@ IsVersionRead version = (version ≡ 1) ⊎ (version ≡ 2)
 
 -- ---- uses
 
-abbrev pub at_uses : UsesStage → Bounds → SoFar → Kind → HeldGathered → List Token → Read Gathered
+abbrev pub at_uses : UsesStage → RecordBounds → SoFar → Kind → HeldGathered → List Token → Read Gathered
 at_uses uses_stages.Sign b s parent g ts = uses_from b s parent (gathered_of g) ts
 at_uses (uses_stages.Location u) b s parent g ts = located b s parent (gathered_of g) u ts
 at_uses uses_stages.Whole b s parent g ts = Ok (gathered_of g, ts)
 
 -- What is left to read of a record's uses.
-abbrev pub uses_left : Bounds → SoFar → Kind → UsesReader → List Token → Read Gathered
+abbrev pub uses_left : RecordBounds → SoFar → Kind → UsesReader → List Token → Read Gathered
 uses_left b s parent r ts = at_uses r.stage b s parent r.gathered ts
 
 -- the uses are within the limits
@@ -90,12 +90,12 @@ AreDoneUses before r = uses_done_at r.stage before r.gathered
 
 -- ---- a record
 
-abbrev pub at_record : Option Head → Bounds → SoFar → RecordReader → List Token → Read SoFar
+abbrev pub at_record : Option Head → RecordBounds → SoFar → RecordReader → List Token → Read SoFar
 at_record None b s r ts = head_left r.reader ts >>= λ h. used s h.0 (uses_left b s h.0.kind r.uses h.1)
 at_record (Some head) b s r ts = used s head (uses_left b s head.kind r.uses ts)
 
 -- What is left to read of a record.
-abbrev pub record_left : Bounds → SoFar → RecordReader → List Token → Read SoFar
+abbrev pub record_left : RecordBounds → SoFar → RecordReader → List Token → Read SoFar
 record_left b s r ts = at_record r.head b s r ts
 
 -- with so many representations before, those of a head are within the limit

@@ -12,7 +12,7 @@ use Rattle.orientation.specs.Kinds.{is_below, rank_of}
 use Rattle.orientation.specs.Turns.{turn_of}
 use Rattle.tshape_data.specs.HeadReading.{head_at}
 use Rattle.tshape_data.specs.Sound.{rep_count}
-use Rattle.tshape_data.specs.declared.bounds.Bounds.{Bounds as HeadBounds}
+use Rattle.tshape_data.specs.declared.head_bounds.HeadBounds.{HeadBounds}
 use Rattle.tshape_data.specs.declared.head.Head.{Head}
 use Rattle.brep_file.specs.declared.uses.FileUse.{FileUse}
 use Rattle.brep_file.specs.declared.records.Record.{Record}
@@ -48,7 +48,7 @@ with_record s head g = record {
 }
 
 -- how many entries each table has, of which version the file is, how many records there are, and how many uses they may have together
-pub record Bounds : Type 0 where
+pub record RecordBounds : Type 0 where
   pub tables : HeadBounds
   pub version : ℕ
   pub records : ℕ
@@ -74,7 +74,7 @@ above_at n seen t number =
     else Err (fault (at_token faults.IndexOutOfRange number n t))
 
 -- a child that fits: its kind is in order, it isn't as deep as a tree may be, and the uses aren't too many
-abbrev pub fitting : Bounds → Kind → ℕ → Token → Seen → Result Seen Refusal
+abbrev pub fitting : RecordBounds → Kind → ℕ → Token → Seen → Result Seen Refusal
 fitting b parent uses t child =
     if is_below child.kind parent then
     (if nat_lt child.depth 512 then
@@ -86,7 +86,7 @@ abbrev pub named : Turn × ℕ → Seen → Named
 named u child = record { turn = u.0; number = u.1; child = child }
 
 -- what a token names in a record of a kind, after so many uses
-abbrev pub named_at : Bounds → List Seen → Kind → ℕ → Token → Option (Turn × ℕ) → Result Named Refusal
+abbrev pub named_at : RecordBounds → List Seen → Kind → ℕ → Token → Option (Turn × ℕ) → Result Named Refusal
 named_at b seen parent uses t None = Err (refused faults.UseExpected t)
 named_at b seen parent uses t (Some u) = above_at b.records seen t u.1 >>= fitting b parent uses t >>= λ child. Ok (named u child)
 
@@ -101,7 +101,7 @@ abbrev pub is_star : List ℕ → Bool
 is_star text = pointwise nat_eq text (codes "*")
 
 -- The uses of a record of a kind, and the `*` after the last: each a sign with a number, and a location's number.
-module _ (b : Bounds) (s : SoFar) (parent : Kind) where
+module _ (b : RecordBounds) (s : SoFar) (parent : Kind) where
   abbrev mutual
     pub uses_from : Gathered → List Token → Read Gathered
     uses_from g [] = Err more
@@ -116,11 +116,11 @@ module _ (b : Bounds) (s : SoFar) (parent : Kind) where
 abbrev pub used : SoFar → Head → Read Gathered → Read SoFar
 used s head read = read >>= λ g. Ok (with_record s head g.0, g.1)
 
-abbrev pub record_at : Bounds → SoFar → List Token → Read SoFar
+abbrev pub record_at : RecordBounds → SoFar → List Token → Read SoFar
 record_at b s ts = head_at (record b.tables { reps = s.reps }) b.version ts >>= λ head. used s head.0 (uses_from b s head.0.kind none_gathered head.1)
 
 -- so many records more
-abbrev pub records_from : Bounds → SoFar → ℕ → List Token → Read SoFar
+abbrev pub records_from : RecordBounds → SoFar → ℕ → List Token → Read SoFar
 records_from b s n ts = many_from (record_at b) s n ts
 
 -- ---- the root use

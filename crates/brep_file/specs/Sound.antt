@@ -9,7 +9,7 @@ use Rattle.surface_tables.specs.Sound.{IsSoundSurface}
 use Rattle.mesh_tables.specs.Sound.{IsSoundPolygon, IsSoundPolygonOn, IsSoundMesh}
 use Rattle.tshape_data.specs.RepReading.{most_reps}
 use Rattle.tshape_data.specs.Sound.{IsSoundHead, rep_count}
-use Rattle.tshape_data.specs.declared.bounds.Bounds.{Bounds}
+use Rattle.tshape_data.specs.declared.head_bounds.HeadBounds.{HeadBounds}
 use Rattle.expansion_laws.specs.Measures.{depth}
 use Rattle.expansion_laws.specs.Expansion.{IsNumberOf}
 use Rattle.brep_file.specs.declared.uses.FileUse.{FileUse}
@@ -38,7 +38,7 @@ pub record AreSoundTables (f : File) : Type 0 where
   pub meshes : IsSoundTable IsSoundMesh f.meshes
 
 -- how many entries each table has
-abbrev pub sizes_of : File → Bounds
+abbrev pub sizes_of : File → HeadBounds
 sizes_of f = record {
   locations = length f.locations;
   curve2s = length f.curve2s;

@@ -6,7 +6,7 @@ ghost use Rattle.std.specs.Prelude.{◌≡◌, Some, length};
 use crate::records::{Record, Records};
 use crate::uses::FileUse;
 use curve_tables::{Curve2, Curve3};
-use entry_readers::EntryList;
+use lists::ListOf;
 use location_table::Locations;
 use mesh_tables::{Meshes, Polygons, PolygonsOn};
 use surface_tables::Surfaces;
@@ -16,8 +16,8 @@ use surface_tables::Surfaces;
 pub struct File {
     pub version: u8,
     pub locations: Locations,
-    pub curve2s: EntryList<Curve2>,
-    pub curves: EntryList<Curve3>,
+    pub curve2s: ListOf<Curve2>,
+    pub curves: ListOf<Curve3>,
     pub polygons: Polygons,
     pub polygons_on: PolygonsOn,
     pub surfaces: Surfaces,

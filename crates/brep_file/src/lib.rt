@@ -7,8 +7,6 @@ pub mod laws;
 mod marks;
 mod reader;
 mod records;
-#[cfg(test)]
-mod tests;
 mod uses;
 
 pub use file::File;
@@ -16,4 +14,4 @@ pub use file_reader::FileReader;
 pub use marks::is_marked;
 pub use reader::read_file;
 pub use records::{Record, Records};
-pub use uses::{FileUse, FileUses};
+pub use uses::{FileUse, FileUses, keep_unmarked};

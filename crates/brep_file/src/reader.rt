@@ -1,5 +1,6 @@
 //! Reads a file token by token.
 
+mod file_bytes;
 mod heading;
 mod locations;
 mod pull;
@@ -9,6 +10,5 @@ mod root;
 mod sections;
 mod state;
 mod uses;
-mod whole;
 
-pub use whole::read_file;
+pub use file_bytes::read_file;

@@ -6,6 +6,8 @@ use Rattle.std.specs.Option.{option_map_or}
 use Rattle.std.proofs.lemmas.List.{length-map}
 use Rattle.std.proofs.lemmas.List.Elements.{All-map, All-contains, All-weaker, Contains-append_cases}
 use Rattle.std.proofs.lemmas.Option.{same_Some}
+use Rattle.lists.proofs.Places.{at_place}
+use Rattle.lists.proofs.Members.{Contains-cases, Contains-flat_map_cases, Contains-map_cases, Contains-none}
 use Rattle.orientation.specs.Kinds.{IsBelow}
 use Rattle.location_words.specs.declared.pair.Pair.{Pair}
 use Rattle.location_table.specs.Laws.{PlacesHaveWords}
@@ -13,7 +15,7 @@ use Rattle.location_table.specs.Words.{datums_of, words_of, word_of_place}
 use Rattle.location_table.specs.Written.{IsWordOver}
 use Rattle.written_locations.specs.Further.{further_words}
 use Rattle.written_locations.proofs.Words.{further-few, further-distinct, further-from}
-use Rattle.written_locations.proofs.Meeting.{word-member}
+use Rattle.written_locations.proofs.Adding.{word-member}
 use Rattle.written_locations.proofs.Sections.{length-written}
 use Rattle.expansion_laws.specs.Trees.{Tree, Use, Uses, node, no_use, a_use, a_single, uses, origin}
 use Rattle.expansion_laws.specs.Equality.{tree_eq}
@@ -24,9 +26,8 @@ use Rattle.expansion_laws.specs.Written.{flat}
 use Rattle.expansion_laws.specs.Fewest.{NoFileHasFewer}
 use Rattle.expansion_laws.specs.Walk.{RecordsAreTrees}
 use Rattle.expansion_laws.specs.Written.{IsWritten}
-use Rattle.expansion_laws.proofs.Members.{Contains-map_cases, Contains-flat_map_cases, Contains-cases, Contains-none, at_place}
-use Rattle.tshape_data.specs.Laws.{PlacesMove}
-use Rattle.tshape_data.specs.Places.{places_of}
+use Rattle.tshape_data.specs.Laws.{RenumberingKeepsParts}
+use Rattle.tshape_data.specs.Locations.{data_locations}
 use Rattle.brep_file.specs.declared.uses.FileUse.{FileUse}
 use Rattle.brep_file.specs.declared.records.Record.{Record}
 use Rattle.brep_file.specs.declared.file.File.{File}
@@ -144,7 +145,7 @@ module _ (f : File) where
           let count = count-plain in
           omega (arith, low, high, count)
 
-      module _ (move : PlacesMove) (places : PlacesHaveWords) (written : IsWritten (expansion_of f) (flat (expansion_of f).tree)) where
+      module _ (renumbering : RenumberingKeepsParts) (places : PlacesHaveWords) (written : IsWritten (expansion_of f) (flat (expansion_of f).tree)) where
         -- the words under the root are words of places
         use-place : (x : Tree) (u : Use) → Contains (subtrees (expansion_of f).tree) x → Contains (uses x) u → (k : ℕ) × (k ≤ length f.locations) × (word_of_place f.locations k ≡ u.word)
         use-place x u m k = (let c = comes-from x u (stands-below x m) k in (c.file_use.location, c.is_use.location, ap (λ (v : Use). v.word) c.is))
@@ -153,8 +154,8 @@ module _ (f : File) where
         word-of_place w m = elim (Contains-append_cases (flat_map (words_of_tree f) (flat (expansion_of f).tree)) ((expansion_of f).word ∷ []) w m) [
           | inl k ↦ (let from = Contains-flat_map_cases (words_of_tree f) w (flat (expansion_of f).tree) k in
               elim (Contains-append_cases (words_of_data f (head_for f from.0)) (map (λ (v : Use). v.word) (uses from.0)) w from.2) [
-                | inl own ↦ (let of = Contains-map_cases (word_of_place f.locations) w (places_of f.version (head_for f from.0).payload) own in
-                    subst (Contains (words_of f.locations)) of.2 (word-member f.locations of.0 (data-within move f sound from.0 of.0 of.1)))
+                | inl own ↦ (let of = Contains-map_cases (word_of_place f.locations) w (data_locations f.version (head_for f from.0).payload) own in
+                    subst (Contains (words_of f.locations)) of.2 (word-member f.locations of.0 (data-within renumbering f sound from.0 of.0 of.1)))
                 | inr l ↦ (let used = Contains-map_cases (λ (v : Use). v.word) w (uses from.0) l in
                     let place = use-place from.0 used.0 (written.lists.stand from.0 from.1) used.1 in
                     subst (Contains (words_of f.locations)) (place.2 ∙ used.2) (word-member f.locations place.0 place.1))

@@ -4,10 +4,11 @@ use Rattle.std.specs.Prelude.{ℕ, ◌==◌, nat_lt, true, List, [], ◌∷◌, 
 use Rattle.std.specs.List.{AllByRecursion}
 use Rattle.std.proofs.lemmas.List.{length-map, length-reverse, reverse-reverse}
 use Rattle.std.proofs.lemmas.Bool.{eqb-true, lt-ltb}
+use Rattle.lists.proofs.Members.{Contains-here, Contains-map_cases, Contains-none, Contains-reverse, Contains-there}
+use Rattle.lists.proofs.Cases.{by_test}
 use Rattle.expansion_laws.specs.Trees.{Tree, Use, origin}
 use Rattle.expansion_laws.specs.Expansion.{IsNumberOf}
 use Rattle.expansion_laws.specs.Written.{flat, IsWritten}
-use Rattle.expansion_laws.proofs.Members.{by_test, Contains-here, Contains-there, Contains-none, Contains-map_cases, Contains-reverse}
 use Rattle.history_text.specs.declared.file.HistoryFile.{HistoryFile}
 use Rattle.history_text.specs.HistoryText.{Ascend, is_pair_below, IsShort, IsPairOf, ArePairs, IsHistory}
 use Rattle.brep_file.specs.declared.file.File.{File}

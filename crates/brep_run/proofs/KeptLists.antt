@@ -4,7 +4,9 @@ use Rattle.std.specs.Prelude.{ℕ, suc, Bool, true, false, Some, List, [], ◌�
 use Rattle.std.specs.List.{list_any}
 use Rattle.std.proofs.lemmas.List.{length-map}
 use Rattle.std.proofs.lemmas.Option.{same_Some}
-use Rattle.expansion_laws.proofs.Members.{by_test, Contains-here, Contains-there, Contains-cases, Contains-none, list_any-contains}
+use Rattle.lists.proofs.Tests.{list_any-contains}
+use Rattle.lists.proofs.Members.{Contains-cases, Contains-here, Contains-none, Contains-there}
+use Rattle.lists.proofs.Cases.{by_test}
 
 module _ {X : Type 0} (p : X → Bool) where
   pub filter-yes : (x : X) (xs : List X) → p x ≡ true → filter p (x ∷ xs) ≡ x ∷ filter p xs

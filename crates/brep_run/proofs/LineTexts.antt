@@ -11,7 +11,7 @@ use Rattle.brep_file.specs.declared.uses.FileUse.{FileUse}
 use Rattle.brep_file.specs.declared.records.Record.{Record}
 use Rattle.brep_file.specs.Spelling.{spell_use}
 use Rattle.tshape_data.specs.Lines.{head_lines}
-use Rattle.tshape_data.specs.Places.{moved_head}
+use Rattle.tshape_data.specs.Locations.{renumbered_head}
 use Rattle.brep_run.specs.Layout.{record_lines}
 use Rattle.brep_run.specs.Completion.{renumbered, renumbered_use}
 
@@ -33,9 +33,9 @@ uses_text (u ∷ v ∷ us) =
 
 -- the lines of a record, one after the other
 pub record_text : (version : ℕ) (numbers places : List ℕ) (location : ℕ → ℕ) (r : Record) → lines_text (record_lines version (renumbered numbers places location r)) ≡
-    lines_text (head_lines version (moved_head location r.head)) ++ (flat_map (λ u. spaced_use (renumbered_use numbers places location u)) r.uses ++ codes "*\n")
+    lines_text (head_lines version (renumbered_head location r.head)) ++ (flat_map (λ u. spaced_use (renumbered_use numbers places location u)) r.uses ++ codes "*\n")
 record_text version numbers places location r =
     let us : List FileUse = map (renumbered_use numbers places location) r.uses in
-    flat_map-append line_text (head_lines version (moved_head location r.head)) ((flat_map spell_use us ++ codes "*" ∷ []) ∷ [])
-    ∙ ap (λ t. lines_text (head_lines version (moved_head location r.head)) ++ t)
+    flat_map-append line_text (head_lines version (renumbered_head location r.head)) ((flat_map spell_use us ++ codes "*" ∷ []) ∷ [])
+    ∙ ap (λ t. lines_text (head_lines version (renumbered_head location r.head)) ++ t)
     (append-nil (line_text (flat_map spell_use us ++ codes "*" ∷ [])) ∙ uses_text us ∙ ap (λ t. t ++ codes "*\n") (flat_map-map spaced_use (renumbered_use numbers places location) r.uses))

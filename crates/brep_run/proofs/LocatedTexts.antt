@@ -1,4 +1,4 @@
--- The locations that are met, and their numbers, in place of the words of trees.
+-- The locations that are added, and their numbers, in place of the words of trees.
 use Rattle.std.proofs.Common.{◌≡◌, ◌<◌, refl, sym, ◌∙◌, ap, arith}
 use Rattle.std.specs.Prelude.{ℕ, suc, List, [], ◌∷◌, ◌++◌, map, length, slice_index}
 use Rattle.std.specs.List.{flat_map}
@@ -8,10 +8,10 @@ use Rattle.std.proofs.lemmas.Simd.{map-map}
 use Rattle.location_table.specs.Words.{datums_of, word_of_place}
 use Rattle.written_locations.specs.declared.written.WrittenLocations.{WrittenLocations}
 use Rattle.written_locations.specs.Further.{further_words, number_of_word}
-use Rattle.written_locations.specs.Met.{further_of, location_number}
+use Rattle.written_locations.specs.Added.{further_of, location_number}
 use Rattle.expansion_laws.specs.Trees.{Use, uses}
 use Rattle.expansion_laws.specs.Expansion.{IsNumberOf}
-use Rattle.tshape_data.specs.Places.{places_of}
+use Rattle.tshape_data.specs.Locations.{data_locations}
 use Rattle.brep_file.specs.declared.uses.FileUse.{FileUse}
 use Rattle.brep_file.specs.declared.file.File.{File}
 use Rattle.brep_file.specs.PlainRecords.{tree_of_record, expansion_of}
@@ -28,7 +28,7 @@ module _ (f : File) (tell : NumbersTell f) where
       let used : map (λ (u : Use). u.word) (uses (tree_of_record f k)) ≡ map (λ (u : FileUse). word_of_place f.locations u.location) at.0.uses =
       ap (map (λ (u : Use). u.word)) (uses_of_tree f tell k at.0 n at.1) ∙ map-map (λ (u : Use). u.word) (use_of_tree f) at.0.uses in
       ap (λ o. map (word_of_place f.locations) (option_map_or (locations_in f.version) o [])) at.1
-      ∙ map-append (word_of_place f.locations) (places_of f.version at.0.head.payload) (map (λ (u : FileUse). u.location) at.0.uses)
+      ∙ map-append (word_of_place f.locations) (data_locations f.version at.0.head.payload) (map (λ (u : FileUse). u.location) at.0.uses)
       ∙ ap (λ l. words_of_data f at.0.head ++ l) (map-map (word_of_place f.locations) (λ (u : FileUse). u.location) at.0.uses ∙ sym used)
       ∙ ap (λ h. words_of_data f h ++ map (λ (u : Use). u.word) (uses (tree_of_record f k))) (sym (head_is f tell k at.0 n at.1))
 

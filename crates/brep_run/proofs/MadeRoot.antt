@@ -4,15 +4,15 @@ use Rattle.std.specs.Prelude.{if◌then◌else◌, None, [], ◌∷◌, ◌++◌
 use Rattle.std.specs.Option.{option_map_or}
 use Rattle.std.specs.Fmt.{digits}
 use Rattle.std.proofs.lemmas.Option.{slice_get_past}
+use Rattle.lists.proofs.Members.{Contains-cases, Contains-none}
 use Rattle.brep_tokens.specs.Written.{lines_text}
 use Rattle.orientation.specs.declared.turn.Turn.TheVariants.{Forward}
 use Rattle.location_table.specs.Words.{datums_of}
 use Rattle.written_locations.specs.Further.{further_words}
-use Rattle.written_locations.proofs.Meeting.{datums-few}
+use Rattle.written_locations.proofs.Adding.{datums-few}
 use Rattle.written_locations.proofs.Sections.{length-written}
 use Rattle.expansion_laws.specs.Trees.{Tree, uses, tree_of, origin}
 use Rattle.expansion_laws.specs.Equality.{tree_eq}
-use Rattle.expansion_laws.proofs.Members.{Contains-none, Contains-cases}
 use Rattle.brep_file.specs.declared.file.File.{File}
 use Rattle.tshape_data.specs.declared.head.Head.{Head}
 use Rattle.brep_file.specs.declared.records.Record.{Record}

@@ -4,8 +4,9 @@ use Rattle.std.specs.Prelude.{ℕ, zero, suc, Some, List, [], ◌∷◌, map, le
 use Rattle.std.proofs.lemmas.List.{length-reverse, length-map}
 use Rattle.std.proofs.lemmas.Option.{same_Some, slice_get-map, slice_get_within}
 use Rattle.std.specs.Option.{option_map}
+use Rattle.lists.proofs.Places.{slice_get-reverse}
+use Rattle.lists.proofs.Members.{Contains-here, Contains-there}
 use Rattle.expansion_laws.specs.Expansion.{NumberedUse, NamesAbove, IsNumberOf}
-use Rattle.expansion_laws.proofs.Members.{Contains-here, Contains-there, slice_get-reverse}
 
 -- ---- lists
 -- a list mapped twice is mapped once, where that agrees on its members

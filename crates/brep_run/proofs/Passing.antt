@@ -4,8 +4,9 @@ use Rattle.std.specs.Prelude.{ℕ, zero, suc, Bool, true, false, if◌then◌els
 use Rattle.std.proofs.lemmas.List.{map-append}
 use Rattle.std.proofs.lemmas.List.Elements.{Contains-append_left, Contains-append_cases, Contains-push}
 use Rattle.std.proofs.lemmas.Bool.{eqb-true, eqb-false}
+use Rattle.lists.proofs.Members.{Contains-cases, Contains-here, Contains-none, Contains-there}
+use Rattle.lists.proofs.Cases.{by_test}
 use Rattle.expansion_laws.specs.Expansion.{IsNumberOf}
-use Rattle.expansion_laws.proofs.Members.{by_test, Contains-here, Contains-there, Contains-cases, Contains-none}
 use Rattle.brep_run.specs.Completion.{new_number}
 use Rattle.brep_run.specs.Remaining.{pair_of, passing}
 use Rattle.brep_run.specs.Removal.{Ascends}

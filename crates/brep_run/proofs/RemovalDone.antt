@@ -3,6 +3,8 @@ use Rattle.std.proofs.Common.{◌≡◌, ◌-◌, refl, sym, ◌∙◌, ap, subs
 use Rattle.std.specs.Prelude.{ℕ, Bool, true, false, not, ◌&&◌, List, [], ◌∷◌, map, reverse, length, slice_get, slice_index, unwrap_or, Contains}
 use Rattle.std.proofs.lemmas.List.Elements.{All-contains}
 use Rattle.std.proofs.lemmas.Option.{slice_get_within, unwrap_or-slice_get}
+use Rattle.lists.proofs.Places.{place_of}
+use Rattle.lists.proofs.Members.{Contains-here, Contains-none, Contains-there}
 use Rattle.expansion_laws.specs.Trees.{Tree, Use, origin}
 use Rattle.expansion_laws.specs.Contexts.{at_root}
 use Rattle.expansion_laws.specs.Expansion.{IsNumberOf, expansion, tree_of_number}
@@ -12,7 +14,6 @@ use Rattle.expansion_laws.specs.Steps.{root_of}
 use Rattle.expansion_laws.specs.Visits.{IsImage}
 use Rattle.expansion_laws.specs.Walk.{RecordsAreTrees}
 use Rattle.expansion_laws.specs.Written.{flat, IsWritten}
-use Rattle.expansion_laws.proofs.Members.{Contains-here, Contains-there, Contains-none, place_of}
 use Rattle.step_history.specs.History.{IsSupported, modified, step_history}
 use Rattle.expansion_laws.specs.Measures.{OccursIn}
 use Rattle.brep_file.specs.declared.records.Record.{Record}

@@ -6,6 +6,9 @@ use Rattle.std.specs.Option.{option_map, option_map_or}
 use Rattle.std.proofs.lemmas.List.{length-map}
 use Rattle.std.proofs.lemmas.List.Elements.{All-filter, All-weaker}
 use Rattle.std.proofs.lemmas.Option.{same_Some, slice_get-map, slice_get_within}
+use Rattle.lists.proofs.Places.{at_place}
+use Rattle.lists.proofs.Members.{Contains-here, Contains-there}
+use Rattle.lists.proofs.Cases.{by_test}
 use Rattle.orientation.specs.declared.kind.Kind.{Kind}
 use Rattle.orientation.specs.Kinds.{IsBelow}
 use Rattle.location_words.specs.declared.pair.Pair.{Pair}
@@ -17,9 +20,8 @@ use Rattle.expansion_laws.specs.Measures.{depth, uses_depth, subtrees}
 use Rattle.expansion_laws.specs.Expansion.{NumberedUse, IsNumberOf, expansion, tree_of_number}
 use Rattle.expansion_laws.specs.Walk.{RecordsAreTrees}
 use Rattle.expansion_laws.specs.Written.{flat, IsWritten}
-use Rattle.expansion_laws.proofs.Members.{by_test, Contains-here, Contains-there, at_place}
 use Rattle.expansion_laws.proofs.Subtrees.{subtrees-itself, subtrees-use, subtrees-onward}
-use Rattle.tshape_data.specs.Places.{moved_head, places_of}
+use Rattle.tshape_data.specs.Locations.{renumbered_head, data_locations}
 use Rattle.tshape_data.specs.Sound.{IsSoundHead}
 use Rattle.tshape_data.specs.Spelling.{spell_payload}
 use Rattle.tshape_data.specs.declared.head.Head.{Head}
@@ -243,7 +245,7 @@ module _ (f : File) (removed : ℕ → Bool) (tell : NumbersTell f) (walk : Reco
         words-same = ap (λ l. l ++ (expansion_of g).word ∷ [])
             (flat_map-same (words_of_tree g) (words_of_tree f) (flat (expansion_of g).tree) (λ x m.
             let places = locations-same in let version = version-same in let same = head-same x (written.lists.stand x m) in
-            λ i. map (word_of_place (places i)) (places_of (version i) (same i).payload) ++ map (λ (u : Use). u.word) (uses x)))
+            λ i. map (word_of_place (places i)) (data_locations (version i) (same i).payload) ++ map (λ (u : Use). u.word) (uses x)))
 
         -- so it is written alike
         pub text-same : text_of g (expansion_of g) ≡ text_of f (expansion_of g)
@@ -253,7 +255,7 @@ module _ (f : File) (removed : ℕ → Bool) (tell : NumbersTell f) (walk : Reco
             let heads : map (written_record g here trees) trees ≡ map (written_record f here trees) trees =
             map-same (written_record g here trees) (written_record f here trees) trees (λ x m.
             let places = locations-same in let same = head-same x (written.lists.stand x m) in
-            λ i. record { head = moved_head (λ n. here (word_of_place (places i) n)) (same i); uses = map (written_use here trees) (uses x) }) in
+            λ i. record { head = renumbered_head (λ n. here (word_of_place (places i) n)) (same i); uses = map (written_use here trees) (uses x) }) in
             let others = after.others in
             let words = words-same in
             let datums = ap datums_of locations-same in

@@ -1,6 +1,8 @@
 -- The history of a removal in numbers, where the root isn't removed.
 use Rattle.std.proofs.Common.{◌≡◌, ◌≢◌, refl, sym, ◌∙◌, ap, subst, arith, inl, inr}
 use Rattle.std.specs.Prelude.{ℕ, suc, Bool, true, false, not, ◌&&◌, List, [], map, length, Contains}
+use Rattle.lists.proofs.Members.{Contains-map, Contains-map_cases}
+use Rattle.lists.proofs.Cases.{by_test}
 use Rattle.orientation.specs.declared.kind.Kind.{Kind}
 use Rattle.orientation.specs.declared.kind.Kind.TheVariants.{Ve, Ed, Wi, Fa, Sh, So, CS, Co}
 use Rattle.expansion_laws.specs.Trees.{Tree, Use, origin}
@@ -13,7 +15,6 @@ use Rattle.expansion_laws.specs.Steps.{kind}
 use Rattle.expansion_laws.specs.Visits.{IsImage, IsReplaced}
 use Rattle.expansion_laws.specs.Walk.{RecordsAreTrees}
 use Rattle.expansion_laws.specs.Written.{flat, IsWritten}
-use Rattle.expansion_laws.proofs.Members.{by_test, Contains-map, Contains-map_cases}
 use Rattle.step_history.specs.History.{History, IsSupported, modified, step_history}
 use Rattle.expansion_laws.specs.Measures.{OccursIn}
 use Rattle.brep_file.specs.declared.file.File.{File}

@@ -4,6 +4,7 @@ use Rattle.std.proofs.Common.{◌≡◌, ◌≤◌, refl, sym, ◌∙◌, ap, su
 use Rattle.std.specs.Prelude.{ℕ, Bool, true, false, if◌then◌else◌, ◌⊎◌, Option, List, [], ◌∷◌, All, map, length}
 use Rattle.std.specs.Option.{option_map_or}
 use Rattle.std.proofs.lemmas.List.Elements.{All-head}
+use Rattle.lists.proofs.Cases.{by_test}
 use Rattle.orientation.specs.declared.kind.Kind.{Kind}
 use Rattle.orientation.specs.declared.kind.Kind.TheVariants.{Ve, Ed, Wi, Fa, Sh, So, CS, Co}
 use Rattle.orientation.specs.Kinds.{IsBelow, rank_of}
@@ -12,7 +13,6 @@ use Rattle.expansion_laws.specs.Trees.{Tree, Use, a_single, uses}
 use Rattle.expansion_laws.specs.Expansion.{IsNumberOf}
 use Rattle.expansion_laws.specs.Steps.{kind, is_entered, entered}
 use Rattle.expansion_laws.specs.Rewriting.{rebuilt, is_pruned, remains}
-use Rattle.expansion_laws.proofs.Members.{by_test}
 use Rattle.expansion_laws.proofs.Subtrees.{tree-parts}
 use Rattle.brep_file.specs.declared.uses.FileUse.{FileUse}
 use Rattle.brep_file.specs.declared.records.Record.{Record}

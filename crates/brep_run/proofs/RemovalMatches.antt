@@ -5,12 +5,14 @@ use Rattle.std.specs.List.{last_or}
 use Rattle.std.proofs.lemmas.List.Elements.{All-head, All-tail, All-contains}
 use Rattle.std.proofs.lemmas.Option.{none-some, same_Some}
 use Rattle.std.proofs.lemmas.Bool.{eqb-true, eqb-false}
+use Rattle.lists.proofs.Tests.{list_any-found}
+use Rattle.lists.proofs.Members.{Contains-here, Contains-map, Contains-map_cases, Contains-none, Contains-there}
+use Rattle.lists.proofs.Cases.{by_test}
 use Rattle.expansion_laws.specs.Trees.{Tree}
 use Rattle.expansion_laws.specs.Equality.{tree_eq}
 use Rattle.expansion_laws.specs.Contexts.{Context}
 use Rattle.expansion_laws.specs.Expansion.{IsNumberOf}
 use Rattle.expansion_laws.specs.Requests.{Request, remove, fits, match_of}
-use Rattle.expansion_laws.proofs.Members.{by_test, Contains-here, Contains-there, Contains-none, Contains-map, Contains-map_cases, list_any-found}
 use Rattle.brep_file.specs.declared.file.File.{File}
 use Rattle.brep_file.specs.PlainRecords.{tree_of_record}
 use Rattle.brep_run.specs.Completion.{NumbersTell}

@@ -2,6 +2,8 @@
 use Rattle.std.proofs.Common.{◌≡◌, ◌<◌, ◌+◌, refl, sym, ◌∙◌, ap, arith}
 use Rattle.std.specs.Prelude.{ℕ, zero, suc, Bool, true, false, not, if◌then◌else◌, Option, None, Some, List, [], ◌∷◌, ◌++◌, All, map, length, Contains}
 use Rattle.std.specs.Option.{option_map}
+use Rattle.lists.proofs.Members.{Contains-here, Contains-there}
+use Rattle.lists.proofs.Cases.{by_test}
 use Rattle.expansion_laws.specs.Trees.{Use, a_single, uses, origin, tree_of}
 use Rattle.expansion_laws.specs.Contexts.{Context, inside}
 use Rattle.expansion_laws.specs.Expansion.{IsNumberOf}
@@ -9,7 +11,6 @@ use Rattle.expansion_laws.specs.Requests.{Request, match_of}
 use Rattle.expansion_laws.specs.Steps.{Step, entered}
 use Rattle.expansion_laws.specs.Rewriting.{joined, all_results, remains, by_act, by_match, results_within, Rewrites}
 use Rattle.expansion_laws.specs.Walk.{RecordsAreTrees}
-use Rattle.expansion_laws.proofs.Members.{by_test, Contains-here, Contains-there}
 use Rattle.brep_file.specs.declared.uses.FileUse.{FileUse}
 use Rattle.brep_file.specs.declared.file.File.{File}
 use Rattle.brep_file.specs.PlainRecords.{tree_of_record}

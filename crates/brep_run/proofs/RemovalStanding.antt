@@ -6,11 +6,13 @@ use Rattle.std.proofs.lemmas.List.{length-map}
 use Rattle.std.proofs.lemmas.List.Elements.{Contains-get_or}
 use Rattle.std.proofs.lemmas.Bool.{eqb-true, eqb-false}
 use Rattle.std.proofs.lemmas.Option.{slice_get-map, slice_get_within, slice_get-get_or, unwrap_or-slice_get}
+use Rattle.lists.proofs.Places.{place_of}
+use Rattle.lists.proofs.Members.{Contains-map, Contains-map_cases}
+use Rattle.lists.proofs.Cases.{by_test}
 use Rattle.expansion_laws.specs.Trees.{Use, tree_of}
 use Rattle.expansion_laws.specs.Expansion.{IsNumberOf}
 use Rattle.expansion_laws.specs.Measures.{subtrees}
 use Rattle.expansion_laws.specs.Written.{flat, ListsSubtrees}
-use Rattle.expansion_laws.proofs.Members.{by_test, Contains-map, Contains-map_cases, place_of}
 use Rattle.brep_file.specs.declared.file.File.{File}
 use Rattle.brep_file.specs.PlainRecords.{tree_of_record}
 use Rattle.brep_run.specs.Completion.{NumbersTell, ArePlaced, new_number}

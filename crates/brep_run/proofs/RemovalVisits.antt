@@ -1,6 +1,8 @@
 -- What is visited, and what its images are, where records are removed by their numbers.
 use Rattle.std.proofs.Common.{◌≡◌, ◌<◌, ◌+◌, refl, sym, ◌∙◌, ap, subst, arith, inl, inr}
 use Rattle.std.specs.Prelude.{ℕ, zero, suc, Bool, true, false, not, ◌⊎◌, List, [], ◌∷◌, map, length, Contains}
+use Rattle.lists.proofs.Members.{Contains-cases, Contains-here, Contains-map, Contains-map_cases, Contains-none}
+use Rattle.lists.proofs.Cases.{by_test}
 use Rattle.orientation.specs.declared.turn.Turn.TheVariants.{Forward}
 use Rattle.expansion_laws.specs.Trees.{Tree, Use, a_single, uses}
 use Rattle.expansion_laws.specs.Contexts.{Context, at_root, inside, bare}
@@ -12,7 +14,6 @@ use Rattle.expansion_laws.specs.RewritingLaws.{IsDetermined}
 use Rattle.expansion_laws.specs.Steps.{Step, is_entered}
 use Rattle.expansion_laws.specs.Visits.{LeadsTo, itself, onto, IsVisit, IsStopped, IsResult, IsImage}
 use Rattle.expansion_laws.specs.Walk.{RecordsAreTrees}
-use Rattle.expansion_laws.proofs.Members.{by_test, Contains-cases, Contains-none, Contains-here, Contains-map, Contains-map_cases}
 use Rattle.expansion_laws.proofs.Subtrees.{subtrees-itself, subtrees-cases, subtrees-use}
 use Rattle.brep_file.specs.declared.uses.FileUse.{FileUse}
 use Rattle.brep_file.specs.declared.file.File.{File}

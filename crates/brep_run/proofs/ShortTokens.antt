@@ -8,6 +8,8 @@ use Rattle.std.proofs.lemmas.Fmt.{length-decimal-le}
 use Rattle.std.proofs.lemmas.Grind.{flat_map-append}
 use Rattle.std.proofs.lemmas.List.Elements.{recursion_from_All, All-weaker}
 use Rattle.std.proofs.lemmas.Option.{slice_get-get_or}
+use Rattle.lists.proofs.Places.{Contains-at}
+use Rattle.lists.proofs.Members.{Contains-cases, Contains-here, Contains-none, Contains-there}
 use Rattle.orientation.specs.declared.kind.Kind.{Kind}
 use Rattle.orientation.specs.declared.kind.Kind.TheVariants.{Ve, Ed, Wi, Fa, Sh, So, CS, Co}
 use Rattle.orientation.specs.Kinds.{name_of}
@@ -21,11 +23,10 @@ use Rattle.location_table.specs.Written.{IsOver, IsWordOver, product_of, written
 use Rattle.expansion_laws.specs.Trees.{Tree, origin}
 use Rattle.expansion_laws.specs.Equality.{tree_eq}
 use Rattle.expansion_laws.specs.Expansion.{IsNumberOf}
-use Rattle.expansion_laws.proofs.Members.{Contains-at, Contains-here, Contains-there, Contains-cases, Contains-none}
 use Rattle.tshape_data.specs.Flags.{spell_flags}
-use Rattle.tshape_data.specs.Laws.{PlacesMove}
-use Rattle.tshape_data.specs.Parts.{Part, token, entry, place, payload_parts}
-use Rattle.tshape_data.specs.Places.{moved_part, moved_payload, place_of_part, places_of}
+use Rattle.tshape_data.specs.Laws.{RenumberingKeepsParts}
+use Rattle.tshape_data.specs.Parts.{Part, token, entry, located, payload_parts}
+use Rattle.tshape_data.specs.Locations.{renumbered_part, renumbered_payload, location_of_part, data_locations}
 use Rattle.tshape_data.specs.Spelling.{part_text, spell_head, spell_payload}
 use Rattle.tshape_data.specs.declared.head.Head.{Head}
 use Rattle.tshape_data.specs.declared.head.Payload.{Payload}
@@ -154,18 +155,18 @@ payload-chosen version None same h = tt
 payload-chosen version (Some r) same h = payload-perhaps version same r.head (h r refl)
 
 -- with other numbers of locations
-moved-short : (move : ℕ → ℕ) (ps : List Part) → AreShort (map part_text ps) → ((n : ℕ) → Contains (flat_map place_of_part ps) n → move n < 10 ^ 18) → AreShort (map part_text (map (moved_part move) ps))
-moved-short move [] short small = tt
-moved-short move (token text ∷ ps) short small = (short.0, moved-short move ps short.1 small)
-moved-short move (entry table n ∷ ps) short small = (short.0, moved-short move ps short.1 small)
-moved-short move (place n ∷ ps) short small =
-    let number = number-short (move n) (small n (Contains-here n (flat_map place_of_part ps))) in
-    (omega (arith, number), moved-short move ps short.1 (λ m k. small m (Contains-there n m (flat_map place_of_part ps) k)))
+renumbered-short : (renumber : ℕ → ℕ) (ps : List Part) → AreShort (map part_text ps) → ((n : ℕ) → Contains (flat_map location_of_part ps) n → renumber n < 10 ^ 18) → AreShort (map part_text (map (renumbered_part renumber) ps))
+renumbered-short renumber [] short small = tt
+renumbered-short renumber (token text ∷ ps) short small = (short.0, renumbered-short renumber ps short.1 small)
+renumbered-short renumber (entry table n ∷ ps) short small = (short.0, renumbered-short renumber ps short.1 small)
+renumbered-short renumber (located n ∷ ps) short small =
+    let number = number-short (renumber n) (small n (Contains-here n (flat_map location_of_part ps))) in
+    (omega (arith, number), renumbered-short renumber ps short.1 (λ m k. small m (Contains-there n m (flat_map location_of_part ps) k)))
 
-pub moved_payload-short : PlacesMove → (version : ℕ) (move : ℕ → ℕ) (p : Payload) → AreShort (spell_payload version p) → ((n : ℕ) → Contains (places_of version p) n → move n < 10 ^ 18) →
-    AreShort (spell_payload version (moved_payload move p))
-moved_payload-short law version move p short small =
-    subst (λ ps. AreShort (map part_text ps)) (sym (law.parts version move p)) (moved-short move (payload_parts version p) short small)
+pub renumbered_payload-short : RenumberingKeepsParts → (version : ℕ) (renumber : ℕ → ℕ) (p : Payload) → AreShort (spell_payload version p) → ((n : ℕ) → Contains (data_locations version p) n → renumber n < 10 ^ 18) →
+    AreShort (spell_payload version (renumbered_payload renumber p))
+renumbered_payload-short law version renumber p short small =
+    subst (λ ps. AreShort (map part_text ps)) (sym (law.parts version renumber p)) (renumbered-short renumber (payload_parts version p) short small)
 
 -- ---- whole files
 -- the tokens after the tables

@@ -21,7 +21,7 @@ use Rattle.mesh_tables.specs.Laws.{IsDecimalOrP, MeshesAreExact}
 use Rattle.mesh_tables.specs.Spelling.{spell_mesh, spell_polygon, spell_polygon_on}
 use Rattle.surface_tables.specs.Laws.{SurfacesAreExact}
 use Rattle.surface_tables.specs.Spelling.{spell_surface}
-use Rattle.tshape_data.specs.Laws.{LinesAreExact, PlacesMove}
+use Rattle.tshape_data.specs.Laws.{LinesAreExact, RenumberingKeepsParts}
 use Rattle.entry_readers.specs.Begins.{IsDecimal}
 use Rattle.brep_run.proofs.LayoutLemmas.{EntriesArePlain, layout-spells}
 use Rattle.brep_run.proofs.WrittenSound.{written-sound}
@@ -41,7 +41,7 @@ module _
     (surfaces : SurfacesAreExact)
     (meshes : MeshesAreExact)
     (heads : LinesAreExact)
-    (move : PlacesMove)
+    (renumbering : RenumberingKeepsParts)
   where
     decimals-plain : (texts : List (List ℕ)) → AllByRecursion IsDecimal texts → AllByRecursion IsPlain texts
     decimals-plain [] are = tt
@@ -68,8 +68,8 @@ module _
         record {
           spelled = (
             written_file f root,
-            layout-spells written_is_read plain heads (written_file f root) (written-sound f root can written sound move places held),
-            written-stands f root can written (records_are_trees (records_of (flat root.tree)) (numbered (flat root.tree) root) written.file) sound move places held,
+            layout-spells written_is_read plain heads (written_file f root) (written-sound f root can written sound renumbering places held),
+            written-stands f root can written (records_are_trees (records_of (flat root.tree)) (numbered (flat root.tree) root) written.file) sound renumbering places held,
           );
           one = reading_is_exact.one (text_of f root);
         }
@@ -77,5 +77,5 @@ module _
     pub texts-stand : TextsStandForRoots
     texts-stand = record {
       texts = text-for;
-      copies = λ f sound. expansion-writable f sound (records_are_trees (plain_records f) (plain_root f) (file-sound f sound)) move places (roots_are_written (expansion_of f)) (fewest (expansion_of f));
+      copies = λ f sound. expansion-writable f sound (records_are_trees (plain_records f) (plain_root f) (file-sound f sound)) renumbering places (roots_are_written (expansion_of f)) (fewest (expansion_of f));
     }

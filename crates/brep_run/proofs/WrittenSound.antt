@@ -6,6 +6,8 @@ use Rattle.std.specs.Option.{option_map_or}
 use Rattle.std.proofs.lemmas.List.{length-map}
 use Rattle.std.proofs.lemmas.List.Elements.{All-map, All-weaker, All-contains, All-contains_itself, Contains-append_left, Contains-append_right, Contains-append_cases}
 use Rattle.std.proofs.lemmas.Option.{same_Some, slice_get_within}
+use Rattle.lists.proofs.Places.{Contains-at, at_place}
+use Rattle.lists.proofs.Members.{Contains-cases, Contains-flat_map, Contains-flat_map_cases, Contains-here, Contains-map, Contains-map_cases, Contains-none}
 use Rattle.orientation.specs.Kinds.{IsBelow}
 use Rattle.location_words.specs.declared.pair.Pair.{Pair}
 use Rattle.location_table.specs.Laws.{PlacesHaveWords, WrittenIsHeld}
@@ -14,19 +16,18 @@ use Rattle.location_table.specs.Words.{datums_of, word_of_place, words_of}
 use Rattle.location_table.specs.Written.{IsWordOver}
 use Rattle.written_locations.specs.Further.{further_words}
 use Rattle.written_locations.proofs.Words.{further-found, further-from}
-use Rattle.written_locations.proofs.Meeting.{datums-few, word-member}
+use Rattle.written_locations.proofs.Adding.{datums-few, word-member}
 use Rattle.written_locations.proofs.Sections.{each-member, place-of_word, place-within_section, datums-sound}
 use Rattle.expansion_laws.specs.Trees.{Tree, Use, uses, origin}
 use Rattle.expansion_laws.specs.Equality.{tree_eq}
 use Rattle.expansion_laws.specs.Measures.{depth}
 use Rattle.expansion_laws.specs.Expansion.{NumberedUse, IsNumberOf, tree_of_number}
 use Rattle.expansion_laws.specs.Written.{flat, number_in, numbered, records_of, IsWritten}
-use Rattle.expansion_laws.proofs.Members.{Contains-at, Contains-map, Contains-map_cases, Contains-flat_map, Contains-flat_map_cases, Contains-cases, Contains-here, Contains-none, at_place}
 use Rattle.expansion_laws.proofs.Subtrees.{subtrees-itself, subtrees-use, subtrees-onward}
-use Rattle.tshape_data.specs.Laws.{PlacesMove}
-use Rattle.tshape_data.specs.Places.{places_of}
+use Rattle.tshape_data.specs.Laws.{RenumberingKeepsParts}
+use Rattle.tshape_data.specs.Locations.{data_locations}
 use Rattle.tshape_data.specs.Sound.{IsSoundHead}
-use Rattle.tshape_data.specs.declared.bounds.Bounds.{Bounds}
+use Rattle.tshape_data.specs.declared.head_bounds.HeadBounds.{HeadBounds}
 use Rattle.tshape_data.specs.declared.head.Head.{Head}
 use Rattle.brep_file.specs.declared.uses.FileUse.{FileUse}
 use Rattle.brep_file.specs.declared.records.Record.{Record}
@@ -39,18 +40,18 @@ use Rattle.brep_run.specs.WrittenFile.{words_of_data, words_of_tree, words_under
 use Rattle.brep_run.specs.Copies.{CanBeWritten}
 use Rattle.brep_run.proofs.LayoutLemmas.{each-append, each-flat_map, spell_others}
 use Rattle.brep_run.proofs.NumberedRecords.{map-map, map-from_end, names_of-number}
-use Rattle.brep_run.proofs.ShortTokens.{Short, AreShort, each-left, each-right, each-map, datums-short, written-entries, section-short, use-short, each-contains, moved_payload-short, record-short, shape_tokens, payload-for}
+use Rattle.brep_run.proofs.ShortTokens.{Short, AreShort, each-left, each-right, each-map, datums-short, written-entries, section-short, use-short, each-contains, renumbered_payload-short, record-short, shape_tokens, payload-for}
 
 -- ---- heads
 -- a head, perhaps rebuilt
 abbrev pub perhaps : Bool → Head → Head
 perhaps b h = if b then h else rebuilt h
 
-sound-perhaps : (b : Bounds) (version : ℕ) (same : Bool) (h : Head) → IsSoundHead b version h → IsSoundHead b version (perhaps same h)
+sound-perhaps : (b : HeadBounds) (version : ℕ) (same : Bool) (h : Head) → IsSoundHead b version h → IsSoundHead b version (perhaps same h)
 sound-perhaps b version true h s = s
 sound-perhaps b version false h s = s
 
-sound-chosen : (b : Bounds) (version : ℕ) (o : Option Record) (same : Bool) → ((r : Record) → o ≡ Some r → IsSoundHead b version r.head) →
+sound-chosen : (b : HeadBounds) (version : ℕ) (o : Option Record) (same : Bool) → ((r : Record) → o ≡ Some r → IsSoundHead b version r.head) →
     IsSoundHead b version (option_map_or (λ r. perhaps same r.head) o made_head)
 sound-chosen b version None same h = tt
 sound-chosen b version (Some r) same h = sound-perhaps b version same r.head (h r refl)
@@ -64,17 +65,17 @@ head-sound f sound x = sound-chosen (sizes_of f) f.version (record_of f (origin 
     (sound.records k r (omega (arith, within), omega arith) (ap (slice_get f.records) back ∙ e)).head))
 
 -- its locations are places of the file, and their words are over the file's datums
-pub data-within : PlacesMove → (f : File) → IsSound f → (x : Tree) → (n : ℕ) → Contains (places_of f.version (head_for f x).payload) n → n ≤ length f.locations
-data-within move f sound x n m =
-    All-contains (λ (j : ℕ). j ≤ length f.locations) (places_of f.version (head_for f x).payload) n
-    (move.within (sizes_of f) f.version (head_for f x) (head-sound f sound x)) m
+pub data-within : RenumberingKeepsParts → (f : File) → IsSound f → (x : Tree) → (n : ℕ) → Contains (data_locations f.version (head_for f x).payload) n → n ≤ length f.locations
+data-within renumbering f sound x n m =
+    All-contains (λ (j : ℕ). j ≤ length f.locations) (data_locations f.version (head_for f x).payload) n
+    (renumbering.within (sizes_of f) f.version (head_for f x) (head-sound f sound x)) m
 
 pub place-over : PlacesHaveWords → (f : File) → IsSound f → (k : ℕ) → k ≤ length f.locations → IsWordOver (length (datums_of f.locations)) (word_of_place f.locations k)
 place-over places f sound k le =
     each-contains (IsWordOver (length (datums_of f.locations))) (words_of f.locations) (word_of_place f.locations k)
     (places.held f.locations sound.tables.locations) (word-member f.locations k le)
 
-module _ (f : File) (root : Use) (can : CanBeWritten f root) (written : IsWritten root (flat root.tree)) (sound : IsSound f) (move : PlacesMove) (places : PlacesHaveWords) where
+module _ (f : File) (root : Use) (can : CanBeWritten f root) (written : IsWritten root (flat root.tree)) (sound : IsSound f) (renumbering : RenumberingKeepsParts) (places : PlacesHaveWords) where
   abbrev trees : List Tree
   trees = flat root.tree
 
@@ -111,19 +112,19 @@ module _ (f : File) (root : Use) (can : CanBeWritten f root) (written : IsWritte
   root-listed = Contains-append_right (flat_map (words_of_tree f) trees) (root.word ∷ []) root.word (Contains-here root.word [])
 
   -- the words of the data of a tree's record
-  pub data-listed : (x : Tree) (n : ℕ) → Contains trees x → Contains (places_of f.version (head_for f x).payload) n → Contains (words_under f root) (word_of_place f.locations n)
+  pub data-listed : (x : Tree) (n : ℕ) → Contains trees x → Contains (data_locations f.version (head_for f x).payload) n → Contains (words_under f root) (word_of_place f.locations n)
   data-listed x n m k =
       Contains-append_left (flat_map (words_of_tree f) trees) (root.word ∷ []) (word_of_place f.locations n)
       (Contains-flat_map (words_of_tree f) x (word_of_place f.locations n) trees m
       (Contains-append_left (words_of_data f (head_for f x)) (map (λ (v : Use). v.word) (uses x)) (word_of_place f.locations n)
-      (Contains-map (word_of_place f.locations) n (places_of f.version (head_for f x).payload) k)))
+      (Contains-map (word_of_place f.locations) n (data_locations f.version (head_for f x).payload) k)))
 
   word-over : (w : List Pair) → Contains (words_under f root) w → IsWordOver (length datums) w
   word-over w m = elim (Contains-append_cases (flat_map (words_of_tree f) trees) (root.word ∷ []) w m) [
     | inl k ↦ (let from = Contains-flat_map_cases (words_of_tree f) w trees k in
         elim (Contains-append_cases (words_of_data f (head_for f from.0)) (map (λ (v : Use). v.word) (uses from.0)) w from.2) [
-          | inl own ↦ (let of = Contains-map_cases (word_of_place f.locations) w (places_of f.version (head_for f from.0).payload) own in
-              subst (IsWordOver (length datums)) of.2 (place-over places f sound of.0 (data-within move f sound from.0 of.0 of.1)))
+          | inl own ↦ (let of = Contains-map_cases (word_of_place f.locations) w (data_locations f.version (head_for f from.0).payload) own in
+              subst (IsWordOver (length datums)) of.2 (place-over places f sound of.0 (data-within renumbering f sound from.0 of.0 of.1)))
           | inr l ↦ (let used = Contains-map_cases (λ (v : Use). v.word) w (uses from.0) l in
               subst (IsWordOver (length datums)) used.2 (can.words from.0 used.0 (written.lists.stand from.0 from.1) used.1))
         ])
@@ -182,14 +183,14 @@ module _ (f : File) (root : Use) (can : CanBeWritten f root) (written : IsWritte
         }
 
     -- the locations of a written head are those of the written file
-    move-within : (x : Tree) → Contains trees x → (n : ℕ) → Contains (places_of f.version (head_for f x).payload) n → location (word_of_place f.locations n) ≤ length made.locations
-    move-within x m n k = word-within law (word_of_place f.locations n) (data-listed x n m k)
+    renumbered-within : (x : Tree) → Contains trees x → (n : ℕ) → Contains (data_locations f.version (head_for f x).payload) n → location (word_of_place f.locations n) ≤ length made.locations
+    renumbered-within x m n k = word-within law (word_of_place f.locations n) (data-listed x n m k)
 
     head-made_sound : (x : Tree) → Contains trees x → IsSoundHead (sizes_of made) f.version (written_head f location (head_for f x))
     head-made_sound x m =
-        move.sound (sizes_of f) f.version (head_for f x) (λ n. location (word_of_place f.locations n)) (length made.locations) (head-sound f sound x) can.few_words
-        (All-weaker (Contains (places_of f.version (head_for f x).payload)) (λ (n : ℕ). location (word_of_place f.locations n) ≤ length made.locations)
-        (move-within x m) (places_of f.version (head_for f x).payload) (All-contains_itself (places_of f.version (head_for f x).payload)))
+        renumbering.sound (sizes_of f) f.version (head_for f x) (λ n. location (word_of_place f.locations n)) (length made.locations) (head-sound f sound x) can.few_words
+        (All-weaker (Contains (data_locations f.version (head_for f x).payload)) (λ (n : ℕ). location (word_of_place f.locations n) ≤ length made.locations)
+        (renumbered-within x m) (data_locations f.version (head_for f x).payload) (All-contains_itself (data_locations f.version (head_for f x).payload)))
 
     record-sound : (k : ℕ) (x : Tree) → IsNumberOf (length trees) k → slice_get trees (length trees - k) ≡ Some x → IsRecord made k (written_record f location trees x)
     record-sound k x n e = record {
@@ -235,8 +236,8 @@ module _ (f : File) (root : Use) (can : CanBeWritten f root) (written : IsWritte
     record-tokens : (x : Tree) → Contains trees x → AreShort (spell_record f.version (written_record f location trees x))
     record-tokens x m =
         record-short f.version (written_record f location trees x)
-        (moved_payload-short move f.version (λ n. location (word_of_place f.locations n)) (head_for f x).payload (payload-for f sound x)
-        (λ n k. (let within = move-within x m n k in let few_words = can.few_words in omega (arith, within, few_words))))
+        (renumbered_payload-short renumbering f.version (λ n. location (word_of_place f.locations n)) (head_for f x).payload (payload-for f sound x)
+        (λ n k. (let within = renumbered-within x m n k in let few_words = can.few_words in omega (arith, within, few_words))))
         (each-map (λ (v : FileUse). (v.number < 10 ^ 18) × (v.location < 10 ^ 18)) (written_use location trees) (uses x) (λ u k.
         use-small u (written.lists.all u.tree (subtrees-onward root.tree x u.tree (written.lists.stand x m) (subtrees-use x u u.tree k (subtrees-itself u.tree)))) (word-listed x u m k)))
 

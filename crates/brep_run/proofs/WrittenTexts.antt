@@ -12,8 +12,8 @@ use Rattle.location_words.specs.declared.pair.Pair.{Pair}
 use Rattle.location_table.specs.Words.{datums_of}
 use Rattle.location_table.specs.Written.{written_section}
 use Rattle.written_locations.specs.declared.written.WrittenLocations.{WrittenLocations}
-use Rattle.written_locations.specs.Met.{location_number}
-use Rattle.tshape_data.specs.Places.{moved_head}
+use Rattle.written_locations.specs.Added.{location_number}
+use Rattle.tshape_data.specs.Locations.{renumbered_head}
 use Rattle.expansion_laws.specs.Trees.{Tree, Use, uses}
 use Rattle.expansion_laws.specs.Expansion.{IsNumberOf}
 use Rattle.brep_file.specs.declared.uses.FileUse.{FileUse}
@@ -94,7 +94,7 @@ module _ (f : File) (tell : NumbersTell f) (numbers places : List ℕ) (placed :
     record_is k r n is =
         let heads = head_is f tell k r n is in let all_uses = uses_are k r n is in
         let number = location-is f tell numbers places placed completes s located in
-        λ i. record { head = moved_head (λ j. sym (number j) i) (heads i); uses = all_uses i }
+        λ i. record { head = renumbered_head (λ j. sym (number j) i) (heads i); uses = all_uses i }
 
     lines_are : (k : ℕ) → IsNumberOf (length f.records) k →
         lines_of_number f numbers places (location_number s) k ≡ lines_text (record_lines f.version (written_record f location trees (tree_of_record f k)))

@@ -7,14 +7,14 @@ use Rattle.location_table.specs.Words.{datums_of, word_of_place}
 use Rattle.location_table.specs.Written.{written_section}
 use Rattle.written_locations.specs.declared.written.WrittenLocations.{WrittenLocations}
 use Rattle.written_locations.specs.Further.{further_words}
-use Rattle.written_locations.specs.Met.{further_of, HasMet, IsNumbering}
+use Rattle.written_locations.specs.Added.{further_of, IsAdded, IsNumbering}
 use Rattle.brep_tokens.specs.Written.{lines_text}
 use Rattle.expansion_laws.specs.Trees.{Tree, Use, uses_of}
 use Rattle.expansion_laws.specs.Equality.{tree_eq}
 use Rattle.expansion_laws.specs.Expansion.{IsNumberOf, expanded, trees_of_file}
 use Rattle.expansion_laws.specs.Walk.{RecordsAreTrees}
 use Rattle.expansion_laws.specs.Written.{completed, completed_uses}
-use Rattle.tshape_data.specs.Places.{moved_head, places_of}
+use Rattle.tshape_data.specs.Locations.{renumbered_head, data_locations}
 use Rattle.brep_file.specs.declared.uses.FileUse.{FileUse}
 use Rattle.brep_file.specs.declared.records.Record.{Record}
 use Rattle.brep_file.specs.declared.file.File.{File}
@@ -61,7 +61,7 @@ abbrev pub renumbered_use : List ℕ → List ℕ → (ℕ → ℕ) → FileUse 
 renumbered_use numbers places location u = record { turn = u.turn; number = new_number numbers places u.number; location = location u.location }
 
 abbrev pub renumbered : List ℕ → List ℕ → (ℕ → ℕ) → Record → Record
-renumbered numbers places location r = record { head = moved_head location r.head; uses = map (renumbered_use numbers places location) r.uses }
+renumbered numbers places location r = record { head = renumbered_head location r.head; uses = map (renumbered_use numbers places location) r.uses }
 
 -- the lines of the record with a number
 abbrev pub lines_of_number : File → List ℕ → List ℕ → (ℕ → ℕ) → ℕ → List ℕ
@@ -71,7 +71,7 @@ lines_of_number f numbers places location k = option_map_or (λ r. lines_text (r
 
 -- the locations of a record in a file of a version: those of its data, and those of its uses
 abbrev pub locations_in : ℕ → Record → List ℕ
-locations_in version r = places_of version r.head.payload ++ map (λ u. u.location) r.uses
+locations_in version r = data_locations version r.head.payload ++ map (λ u. u.location) r.uses
 
 -- those of the record with a number
 abbrev pub locations_of_number : File → ℕ → List ℕ
@@ -81,12 +81,12 @@ locations_of_number f k = option_map_or (locations_in f.version) (record_of f k)
 abbrev pub locations_used : File → List ℕ → List ℕ
 locations_used f numbers = flat_map (locations_of_number f) numbers ++ f.root.location ∷ []
 
--- these locations of the file were met, and their words have their numbers
+-- these locations of the file were added, and their words have their numbers
 pub record AreLocated (f : File) (locations : List ℕ) (s : WrittenLocations) : Type 0 where
   pub section : s.section.now ≡ f.locations
   pub numbering : IsNumbering s
   pub words : further_of s ≡ further_words (map (word_of_place f.locations) locations)
-  pub met : (k : ℕ) → Contains locations k → HasMet s k
+  pub added : (k : ℕ) → Contains locations k → IsAdded s k
 
 -- the locations that are written: the datums, and the further words
 abbrev pub locations_of : WrittenLocations → List LocationEntry

@@ -49,7 +49,7 @@ entry_tokens f Meshes n = tokens_of spell_mesh f.meshes n
 abbrev pub dressed_part : File → Part → DressedPart
 dressed_part f (parts.token text) = token text
 dressed_part f (parts.entry table n) = entry (entry_tokens f table n)
-dressed_part f (parts.place n) = word (word_of_place f.locations n)
+dressed_part f (parts.located n) = word (word_of_place f.locations n)
 
 -- what a dressed tree says of a node
 pub record Dressed : Type 0 where

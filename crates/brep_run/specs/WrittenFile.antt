@@ -8,7 +8,7 @@ use Rattle.location_table.specs.declared.entry.LocationEntry.{LocationEntry}
 use Rattle.written_locations.specs.Further.{further_words, number_of_word}
 use Rattle.expansion_laws.specs.Trees.{Tree, Use, uses}
 use Rattle.expansion_laws.specs.Written.{flat, number_in}
-use Rattle.tshape_data.specs.Places.{moved_head, places_of}
+use Rattle.tshape_data.specs.Locations.{renumbered_head, data_locations}
 use Rattle.tshape_data.specs.declared.head.Head.{Head}
 use Rattle.brep_file.specs.declared.uses.FileUse.{FileUse}
 use Rattle.brep_file.specs.declared.records.Record.{Record}
@@ -20,7 +20,7 @@ use Rattle.brep_run.specs.Layout.{layout}
 
 -- the words of the locations in a record's data
 abbrev pub words_of_data : File → Head → List (List Pair)
-words_of_data f h = map (word_of_place f.locations) (places_of f.version h.payload)
+words_of_data f h = map (word_of_place f.locations) (data_locations f.version h.payload)
 
 -- the words in the record of a tree: those of its data, and then those of its uses
 abbrev pub words_of_tree : File → Tree → List (List Pair)
@@ -45,7 +45,7 @@ written_use location trees u = record { turn = u.turn; number = number_in trees 
 
 -- a head with the numbers of its locations' words
 abbrev pub written_head : File → (List Pair → ℕ) → Head → Head
-written_head f location h = moved_head (λ n. location (word_of_place f.locations n)) h
+written_head f location h = renumbered_head (λ n. location (word_of_place f.locations n)) h
 
 abbrev pub written_record : File → (List Pair → ℕ) → List Tree → Tree → Record
 written_record f location trees x = record { head = written_head f location (head_for f x); uses = map (written_use location trees) (uses x) }

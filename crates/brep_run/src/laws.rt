@@ -8,7 +8,7 @@ use expansion_laws::laws::{fewest, records_are_trees, roots_are_written};
 use location_table::laws::{locations_are_exact, places_have_words, written_is_held};
 use mesh_tables::laws::meshes_are_exact;
 use surface_tables::laws::surfaces_are_exact;
-use tshape_data::laws::{head_lines_are_exact, places_move};
+use tshape_data::laws::{head_lines_are_exact, renumbering_keeps_parts};
 
 /// The text that is written for a root spells one file, which stands for that root.
 pub fn texts_stand_for_roots()
@@ -26,5 +26,5 @@ pub fn texts_stand_for_roots()
     surfaces_are_exact();
     meshes_are_exact();
     head_lines_are_exact();
-    places_move();
+    renumbering_keeps_parts();
 }

@@ -10,7 +10,7 @@ ghost use Rattle.brep_tokens.specs.Tokens.{version_line};
 ghost use Rattle.brep_tokens.specs.Written.{lines_text};
 ghost use Rattle.std.specs.List.{flat_map};
 ghost use Rattle.std.specs.Prelude.{◌≡◌, ◌⊎◌, ◌∷◌, ◌++◌, IfOk, OnOk, [], length};
-ghost use Rattle.written_locations.specs.Met.{IsNumbering, location_number};
+ghost use Rattle.written_locations.specs.Added.{IsNumbering, location_number};
 
 mod lines;
 mod locations;
@@ -24,7 +24,7 @@ use locations::{locations_in, push_locations};
 pub(crate) use order::{Order, order_of, record_at};
 use std::alloc::{AllocError, Global};
 use tables::push_tables;
-use tshape_data::laws::places_move;
+use tshape_data::laws::renumbering_keeps_parts;
 use written_locations::WrittenLocations;
 
 /// The version line of version 1, and of version 2.
@@ -74,7 +74,7 @@ fn push_records(
     ensures { OnOk result (text.new.items ≡ text.old.items
         ++ flat_map (lines_of_number file.now order.now.numbers.items order.now.places.items (location_number locations.now)) order.now.numbers.items) }
 {
-    places_move();
+    renumbering_keeps_parts();
     for number in order.numbers() {
         push_record(
             text,

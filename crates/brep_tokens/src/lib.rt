@@ -9,11 +9,9 @@ mod forms;
 pub mod laws;
 mod numbers;
 mod scanner;
-#[cfg(test)]
-mod tests;
 mod text;
+mod text_words;
 mod version;
-mod words;
 
 pub use decimal_form::decimal;
 pub use decimals::Decimals;

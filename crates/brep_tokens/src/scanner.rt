@@ -4,8 +4,8 @@ ghost use Rattle.std.specs.Prelude.{◌≡◌, ◌++◌, OnErr, OnOk, [], false,
 
 use crate::fault::{ReadCode, ReadFault, fault};
 use crate::text::{Token, TokenText};
+use crate::text_words::first_word;
 use crate::version::head;
-use crate::words::first_word;
 use std::alloc::{AllocError, Global};
 use std::marker::Model;
 

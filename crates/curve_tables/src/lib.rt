@@ -5,9 +5,9 @@ mod chain;
 mod counts;
 mod curve2;
 mod curve3;
+mod curves;
 mod fields;
 pub mod laws;
-mod lists;
 mod part_spell;
 mod parts;
 mod reader2;
@@ -15,12 +15,10 @@ mod reader3;
 mod spell2;
 mod spell3;
 mod stage;
-#[cfg(test)]
-mod tests;
 
 pub use curve2::Curve2;
 pub use curve3::Curve3;
-pub use lists::{Curve2s, Curve3s};
+pub use curves::{Curve2s, Curve3s};
 pub use reader2::Curve2Reader;
 pub use reader3::Curve3Reader;
 pub use spell2::Spell2;

@@ -5,19 +5,15 @@
 mod decimals_due;
 mod due;
 mod entry;
-mod entry_list;
 mod knots_due;
 pub mod laws;
 mod numbers_due;
 mod section;
 mod spell;
-#[cfg(test)]
-mod tests;
 
 pub use decimals_due::DecimalsDue;
 pub use due::{decimal_due, fault_at, flag_due, number_due, ranged_due, word_due};
 pub use entry::EntryReader;
-pub use entry_list::EntryList;
 pub use knots_due::KnotsDue;
 pub use numbers_due::NumbersDue;
 pub use section::Section;

@@ -3,6 +3,8 @@ use Rattle.std.proofs.Common.{refl, sym, ap, inl, inr, ◌∙◌}
 use Rattle.std.specs.Prelude.{◌≡◌, ℕ, zero, suc, Option, None, Some, List, [], ◌∷◌, ◌++◌, map, Bool, true, false, Contains, if◌then◌else◌}
 use Rattle.std.specs.Option.{option_map}
 use Rattle.std.proofs.lemmas.List.{map-append}
+use Rattle.std.proofs.lemmas.Option.{same_Some}
+use Rattle.lists.proofs.Members.{Contains-cases, Contains-here, Contains-none, Contains-there}
 use Rattle.orientation.specs.declared.turn.Turn.{Turn}
 use Rattle.orientation.specs.Kinds.{kind_eq}
 use Rattle.orientation.specs.Turns.{composed}
@@ -15,7 +17,6 @@ use Rattle.expansion_laws.specs.Contexts.{Context, inside, carried, bare}
 use Rattle.expansion_laws.specs.Requests.{Act, remove, replace, Request, match_of}
 use Rattle.expansion_laws.specs.Steps.{Step, kind, is_entered, entered, new_use, onward}
 use Rattle.expansion_laws.specs.Rewriting.{joined, all_results, rebuilt, is_pruned, remains, by_act, by_match, results_within, Rewrites}
-use Rattle.expansion_laws.proofs.Members.{Contains-here, Contains-there, Contains-cases, Contains-none, Some-same}
 use Rattle.expansion_laws.proofs.CarriedLemmas.{inside-carried}
 
 -- uses in two contexts, one by one of the same tree with the same accumulated turn and word
@@ -69,7 +70,7 @@ trees-joined (Some a) None (Some a') None h k = refl
 trees-joined (Some a) None (Some a') (Some b') h k = absurd cc
 trees-joined (Some a) (Some b) (Some a') None h k = absurd cc
 trees-joined (Some a) (Some b) (Some a') (Some b') h k =
-    ap Some (map-append (λ (v : Use). v.tree) a b ∙ (λ i. Some-same (map (λ (v : Use). v.tree) a) (map (λ (v : Use). v.tree) a') h i ++ Some-same (map (λ (v : Use). v.tree) b) (map (λ (v : Use). v.tree) b') k i) ∙ sym (map-append (λ (v : Use). v.tree) a' b'))
+    ap Some (map-append (λ (v : Use). v.tree) a b ∙ (λ i. same_Some (map (λ (v : Use). v.tree) a) (map (λ (v : Use). v.tree) a') h i ++ same_Some (map (λ (v : Use). v.tree) b) (map (λ (v : Use). v.tree) b') k i) ∙ sym (map-append (λ (v : Use). v.tree) a' b'))
 
 -- the trees of what remains of a use are those of its tree's bare use
 trees-remaining : (s : Step) (u : Use) (o : Option (List Use)) → trees (option_map (remains s u) o) ≡ trees (option_map (remains s (bare u.tree)) o)
@@ -115,7 +116,7 @@ results-alike s (suc n) c d u v e f =
 
 pub trees-some : (o : Option (List Use)) (ts : List Tree) → Some ts ≡ trees o → (b : List Use) × (o ≡ Some b) × (ts ≡ map (λ v. v.tree) b)
 trees-some None ts e = absurd cc
-trees-some (Some b) ts e = (b, refl, Some-same ts (map (λ (v : Use). v.tree) b) e)
+trees-some (Some b) ts e = (b, refl, same_Some ts (map (λ (v : Use). v.tree) b) e)
 
 -- a use has results where one that is alike has, with the same trees
 pub rewrites-alike : (s : Step) (c d : Context) (u v : Use) (a : List Use) → u.tree ≡ v.tree → inside c u ≡ inside d v → Rewrites s c u a →

@@ -2,6 +2,7 @@
 use Rattle.std.proofs.Common.{refl, sym, ap, subst, inl, inr, ◌∙◌}
 use Rattle.std.specs.Prelude.{◌≡◌, true, false, if◌then◌else◌, Option, None, Some, List, [], ◌++◌, Contains}
 use Rattle.std.proofs.lemmas.List.Elements.{Contains-append_left, Contains-append_right, Contains-append_cases}
+use Rattle.lists.proofs.Members.{Contains-cases, Contains-here, Contains-none, Contains-there}
 use Rattle.location_words.specs.declared.pair.Pair.{Pair}
 use Rattle.location_words.specs.Pairs.{inverse}
 use Rattle.location_words.proofs.WordLaws.{IsWord-mul}
@@ -14,7 +15,6 @@ use Rattle.expansion_laws.specs.Derivations.{Derives, DeriveAll, stopped, unmatc
 use Rattle.expansion_laws.specs.Demands.{demands_of_act, demands_by, demands}
 use Rattle.expansion_laws.specs.Visits.{LeadsTo, itself, onto}
 use Rattle.expansion_laws.specs.DerivedVisits.{visits_of, visits_of_all, VisitsAreDerived}
-use Rattle.expansion_laws.proofs.Members.{Contains-here, Contains-there, Contains-cases, Contains-none}
 use Rattle.expansion_laws.proofs.VisitLemmas.{inside-bare}
 use Rattle.expansion_laws.proofs.AlikeLemmas.{AlikeAll, alike-onward, alike-new, alike-find}
 

@@ -1,8 +1,11 @@
 -- What a step's graph reaches from a tree stands in that tree or in what replaces bring.
-use Rattle.std.proofs.Common.{◌≤◌, subst, cond, arith, inl, inr}
-use Rattle.std.specs.Prelude.{ℕ, zero, suc, Bool, true, false, List, [], ◌∷◌, ◌++◌, length, filter, Contains, if◌then◌else◌}
+use Rattle.std.proofs.Common.{◌≤◌, subst, arith, inl, inr}
+use Rattle.std.specs.Prelude.{ℕ, zero, suc, Bool, true, false, List, [], ◌∷◌, ◌++◌, length, Contains, if◌then◌else◌}
 use Rattle.std.specs.List.{list_any, flat_map}
 use Rattle.std.proofs.lemmas.List.Elements.{Contains-append_left, Contains-append_right, Contains-append_cases}
+use Rattle.lists.proofs.Tests.{Contains-filter_cases}
+use Rattle.lists.proofs.Members.{Contains-cases, Contains-flat_map, Contains-flat_map_cases, Contains-map_cases, Contains-none, Contains-there}
+use Rattle.lists.proofs.Cases.{by_test}
 use Rattle.orientation.specs.Kinds.{kind_eq}
 use Rattle.graph_walks.specs.Walks.{itself, along, IsWalkFrom}
 use Rattle.graph_walks.proofs.TotalLemmas.{cycle-or-rank}
@@ -14,17 +17,8 @@ use Rattle.expansion_laws.specs.Requests.{Act, remove, replace, Request, is_for,
 use Rattle.expansion_laws.specs.Steps.{Step, kind, is_entered, entered}
 use Rattle.expansion_laws.specs.Graph.{trees_of, children, targets, edges, Reaches, HasCycle, IsRank}
 use Rattle.expansion_laws.specs.Ending.{CycleOrRank, CyclesAreFound}
-use Rattle.expansion_laws.proofs.Members.{by_test, Contains-here, Contains-there, Contains-cases, Contains-none, Contains-map_cases, Contains-flat_map, Contains-flat_map_cases}
 use Rattle.expansion_laws.proofs.TreeEquality.{tree_eq-same, tree_eq-itself}
 use Rattle.expansion_laws.proofs.Subtrees.{subtrees-itself, subtrees-use, subtrees-onward}
-
-filter-member : {X : Type 0} (p : X → Bool) (xs : List X) (x : X) → Contains (filter p xs) x → Contains xs x
-filter-member p [] x m = m
-filter-member p (y ∷ xs) x m = go (p y) m (λ k. filter-member p xs x k)
-  where
-    go : (b : Bool) → Contains (cond b (y ∷ filter p xs) (filter p xs)) x → (Contains (filter p xs) x → Contains xs x) → Contains (y ∷ xs) x
-    go true m ih = elim (Contains-cases y x (filter p xs) m) [ inl same ↦ subst (λ z. Contains (y ∷ xs) z) same (Contains-here y xs) | inr k ↦ Contains-there y x xs (ih k) ]
-    go false m ih = Contains-there y x xs (ih m)
 
 live-member : (qs : List Request) (r : Request) → Contains (from_last_unconditional qs) r → Contains qs r
 live-member [] r m = m
@@ -76,7 +70,7 @@ module _ (s : Step) (root : Tree) where
   edge-stays x y h m = elim (Contains-append_cases (flat_map (λ r. targets s x r.act) (live_requests s.requests x)) (if list_any is_unconditional (requests_for s.requests x) then [] else trees_of (entered s x)) y m) [
     | inl k ↦
         (let from = Contains-flat_map_cases (λ (r : Request). targets s x r.act) y (live_requests s.requests x) k in
-        let given = filter-member (is_for x) s.requests from.0 (live-member (requests_for s.requests x) from.0 from.1) in
+        let given = (Contains-filter_cases (is_for x) s.requests from.0 (live-member (requests_for s.requests x) from.0 from.1)).0 in
         Contains-append_right (subtrees root) (flat_map (λ r. act_trees r.act) s.requests) y (Contains-flat_map (λ (r : Request). act_trees r.act) from.0 y s.requests given (target-given x y from.0.act from.2)))
     | inr k ↦ all-closed x y h (child-below x y (left-child (list_any is_unconditional (requests_for s.requests x)) x y k))
   ]

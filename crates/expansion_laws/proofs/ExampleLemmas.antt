@@ -1,6 +1,7 @@
 -- The worked examples, by computation.
 use Rattle.std.proofs.Common.{◌≡◌, ◌≢◌, refl, ◌∙◌, ap, arith, inl, inr}
 use Rattle.std.specs.Prelude.{ℕ, [], ◌∷◌, Contains, Some, None, map}
+use Rattle.lists.proofs.Members.{Contains-cases, Contains-none}
 use Rattle.orientation.specs.declared.turn.Turn.TheVariants.{Reversed, Internal}
 use Rattle.graph_walks.specs.Walks.{closes, enters, finds}
 use Rattle.expansion_laws.specs.Trees.{Tree, a_single, origin, tree_of}
@@ -10,7 +11,6 @@ use Rattle.expansion_laws.specs.Rewriting.{results_within}
 use Rattle.expansion_laws.specs.Visits.{visits_within}
 use Rattle.expansion_laws.specs.Graph.{IsFirstCycle}
 use Rattle.expansion_laws.specs.Examples.{plus, wires, by_wire, after_wire, faces, by_vertex, after_vertex, solids, at_place, after_place, under_turn, turned_root, pairs, in_cycle, cycle_walk, doubled, by_leaf, twice, placed, at_one, after_one, visited_words, ExamplesComeOut}
-use Rattle.expansion_laws.proofs.Members.{Contains-none, Contains-cases}
 
 edge-by-wire : results_within by_wire 8 at_root (expansion wires (plus 1)) ≡ Some (after_wire ∷ [])
 unfolding results_within

@@ -2,8 +2,10 @@
 use Rattle.std.proofs.Common.{◌≡◌, ◌<◌, ◌≤◌, ◌+◌, ◌-◌, sym, ◌∙◌, ap, subst, arith, slice_index_or, take, drop}
 use Rattle.std.specs.Prelude.{ℕ, zero, suc, Some, List, [], ◌∷◌, ◌++◌, map, length, reverse, All, slice_get}
 use Rattle.std.proofs.lemmas.List.{length-map, length-reverse, map-append, take_more, take-append-drop, drop_more, take_all}
-use Rattle.std.proofs.lemmas.Option.{slice_get-get_or, slice_get-map}
+use Rattle.std.proofs.lemmas.Option.{slice_get-get_or, slice_get-map, same_Some}
 use Rattle.std.specs.Option.{option_map}
+use Rattle.std.proofs.lemmas.List.Elements.{All-contains}
+use Rattle.lists.proofs.Places.{Contains-at, slice_get-reverse}
 use Rattle.expansion_laws.specs.declared.fault.ExpandFault.{ExpandFault}
 use Rattle.expansion_laws.specs.declared.fault.ExpandFault.TheVariants.{TooBig, Word, NoMemory}
 use Rattle.expansion_laws.specs.declared.records.PlainUse.{PlainUse}
@@ -14,7 +16,6 @@ use Rattle.expansion_laws.specs.Measures.{use_count, uses_count}
 use Rattle.expansion_laws.specs.Expansion.{NumberedUse, expanded, trees_of_file, tree_of_number, NamesAbove, IsNumberOf}
 use Rattle.expansion_laws.specs.Plain.{shown_use}
 use Rattle.expansion_laws.specs.PlainFile.{numbered_use, rows, IsDueExpansion}
-use Rattle.expansion_laws.proofs.Members.{Contains-at, All-member, slice_get-reverse, Some-same}
 use Rattle.expansion_laws.proofs.Subtrees.{tree-parts}
 use Rattle.expansion_laws.proofs.FileTrees.{uses-of_number, origin-of_number}
 
@@ -31,7 +32,7 @@ named-at : (first : ℕ) (records : List (List NumberedUse)) → NamesAbove firs
     All (λ u. (first + i < u.number) × (u.number < first + length records)) us
 named-at first [] h i us e = absurd cc
 named-at first (vs ∷ rest) h zero us e =
-    subst (λ l. All (λ (u : NumberedUse). (first + 0 < u.number) × (u.number < first + length (vs ∷ rest))) l) (Some-same vs us e)
+    subst (λ l. All (λ (u : NumberedUse). (first + 0 < u.number) × (u.number < first + length (vs ∷ rest))) l) (same_Some vs us e)
     (λ k d lt. (let b = h.0 k d lt in let low = b.0 in let high = b.1 in (omega (arith, low), omega (arith, high))))
 named-at first (vs ∷ rest) h (suc i) us e =
     λ k d lt. (let b = named-at (suc first) rest h.1 i us e k d lt in let low = b.0 in let high = b.1 in (omega (arith, low), omega (arith, high)))
@@ -75,7 +76,7 @@ module _ (records : List PlainRecord) (k : ℕ) (items : List PlainUse) (d : Pla
         let there : slice_get (reverse (rows records)) (k - 1) ≡ Some (map numbered_use items) =
         slice_get-reverse (rows records) (k - 1) (omega (arith, low, high, e))
         ∙ ap (λ n. slice_get (rows records) n) (let same : length (rows records) - suc (k - 1) ≡ length (rows records) - k = omega (arith, low) in same) ∙ row in
-        let one = All-member (λ (v : NumberedUse). (1 + (k - 1) < v.number) × (v.number < 1 + length (reverse (rows records)))) (map numbered_use items) (numbered_use u)
+        let one = All-contains (λ (v : NumberedUse). (1 + (k - 1) < v.number) × (v.number < 1 + length (reverse (rows records)))) (map numbered_use items) (numbered_use u)
         (named-at 1 (reverse (rows records)) names (k - 1) (map numbered_use items) there)
         (Contains-at (map numbered_use items) i (numbered_use u) (slice_get-map numbered_use items i ∙ ap (option_map numbered_use) at_place)) in
         let a = one.0 in let b = one.1 in

@@ -2,12 +2,14 @@
 use Rattle.std.proofs.Common.{◌≡◌, ◌-◌, sym, ◌∙◌, ap, subst, arith}
 use Rattle.std.specs.Prelude.{ℕ, List, [], map, length, Contains, unwrap_or}
 use Rattle.std.proofs.lemmas.List.{length-map}
+use Rattle.lists.proofs.Places.{Contains-at, at_place}
+use Rattle.lists.proofs.Members.{Contains-map, Contains-map_cases, Contains-none}
+use Rattle.lists.proofs.Distinct.{length-le_from_distinct}
 use Rattle.expansion_laws.specs.Trees.{Tree, Use, uses, origin, tree_of}
 use Rattle.expansion_laws.specs.Expansion.{NumberedUse, trees_of_file, tree_of_number, IsNumberOf, IsFile}
 use Rattle.expansion_laws.specs.Sharing.{relabelled_use, with_origins}
 use Rattle.expansion_laws.specs.Written.{flat}
 use Rattle.expansion_laws.specs.Fewest.{NoFileHasFewer}
-use Rattle.expansion_laws.proofs.Members.{Contains-none, Contains-map, Contains-map_cases, Contains-at, at_place, no_more}
 use Rattle.expansion_laws.proofs.Subtrees.{subtrees-use, subtrees-itself}
 use Rattle.expansion_laws.proofs.FileTrees.{length-trees_of_file, subtree-of_number}
 use Rattle.expansion_laws.proofs.Relabelling.{uses-relabelled}
@@ -40,7 +42,7 @@ pub no_file_has_fewer : (root : Use) → NoFileHasFewer root
 no_file_has_fewer root records file_root origin_of file e =
     let root_of_file : IsOfFile records file_root origin_of file root.tree = (file_root.number, file.names_root, ap (λ (u : Use). u.tree) e) in
     let all = all_completed (IsOfFile records file_root origin_of file) (of_file-uses records file_root origin_of file) root.tree [] root_of_file (λ y m. absurd (Contains-none y m)) in
-    let count = no_more (flat root.tree) (map (with_origins origin_of) (trees_of_file records)) (flat-once root.tree)
+    let count = length-le_from_distinct (flat root.tree) (map (with_origins origin_of) (trees_of_file records)) (flat-once root.tree)
     (λ x m. of_file-contains records file_root origin_of file x (all x m)) in
     let size = length-map (trees_of_file records) (with_origins origin_of) in
     let long = length-trees_of_file records in

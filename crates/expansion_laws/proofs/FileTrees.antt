@@ -2,11 +2,13 @@
 use Rattle.std.proofs.Common.{◌≡◌, ◌<◌, ◌≤◌, ◌+◌, ◌-◌, refl, sym, ◌∙◌, ap, subst, arith, inl, inr}
 use Rattle.std.specs.Prelude.{ℕ, zero, suc, Some, List, [], ◌∷◌, map, length, reverse, All, Contains, slice_get, unwrap_or}
 use Rattle.std.proofs.lemmas.List.{length-reverse}
-use Rattle.std.proofs.lemmas.List.Elements.{All-head, All-tail}
+use Rattle.std.proofs.lemmas.List.Elements.{All-head, All-tail, All-contains}
+use Rattle.std.proofs.lemmas.Option.{same_Some}
+use Rattle.lists.proofs.Places.{slice_get-reverse}
+use Rattle.lists.proofs.Members.{Contains-map_cases}
 use Rattle.expansion_laws.specs.Trees.{Tree, Use, uses, origin, tree_of, a_single}
 use Rattle.expansion_laws.specs.Measures.{subtrees}
 use Rattle.expansion_laws.specs.Expansion.{NumberedUse, tree_at, expanded, trees_from, trees_of_file, tree_of_number, expansion, NamesAbove, IsNumberOf, IsFile}
-use Rattle.expansion_laws.proofs.Members.{All-member, Contains-map_cases, Some-same, slice_get-reverse}
 use Rattle.expansion_laws.proofs.Subtrees.{list_of-uses_of, subtrees-cases}
 
 pub length-trees_from : (first : ℕ) (records : List (List NumberedUse)) → length (trees_from first records) ≡ length records
@@ -41,7 +43,7 @@ first_tree first us rest = tree_of first (map (expanded (suc first) (trees_from 
 names_above-at : (first : ℕ) (records : List (List NumberedUse)) → NamesAbove first records → (i : ℕ) (us : List NumberedUse) → slice_get records i ≡ Some us →
     All (λ u. first < u.number) us
 names_above-at first [] h i us e = absurd cc
-names_above-at first (vs ∷ rest) h zero us e = subst (λ l. All (λ (u : NumberedUse). first < u.number) l) (Some-same vs us e) (λ k d lt. (h.0 k d lt).0)
+names_above-at first (vs ∷ rest) h zero us e = subst (λ l. All (λ (u : NumberedUse). first < u.number) l) (same_Some vs us e) (λ k d lt. (h.0 k d lt).0)
 names_above-at first (vs ∷ rest) h (suc i) us e = λ k d lt. (let a = names_above-at (suc first) rest h.1 i us e k d lt in omega (arith, a))
 
 -- the uses of a record's tree are those of the record, with the trees of the records that they name
@@ -56,7 +58,7 @@ uses-at first (vs ∷ rest) h zero us e =
     ∙ ap uses (tree_at-first first x trees)
     ∙ list_of-uses_of (map (expanded (suc first) trees) vs)
     ∙ expanded-more first x trees vs (λ k d lt. (h.0 k d lt).0)
-    ∙ ap (map (expanded first (x ∷ trees))) (Some-same vs us e)
+    ∙ ap (map (expanded first (x ∷ trees))) (same_Some vs us e)
 uses-at first (vs ∷ rest) h (suc i) us e =
     let trees : List Tree = trees_from (suc first) rest in
     let x : Tree = first_tree first vs rest in
@@ -112,7 +114,7 @@ subtrees-at first (us ∷ rest) h zero lt y m =
           })
       | inr below ↦
           (let named = Contains-map_cases (expanded (suc first) trees) below.0 us (subst (λ l. Contains l below.0) (list_of-uses_of (map (expanded (suc first) trees) us)) below.1) in
-          let bounds = All-member (λ (u : NumberedUse). (first < u.number) × (u.number ≤ first + length rest)) us named.0 h.0 named.1 in
+          let bounds = All-contains (λ (u : NumberedUse). (first < u.number) × (u.number ≤ first + length rest)) us named.0 h.0 named.1 in
           let low = bounds.0 in let high = bounds.1 in
           let there : named.0.number ≡ suc first + (named.0.number - suc first) = omega (arith, low) in
           let tree : below.0.tree ≡ tree_at (suc first) trees (suc first + (named.0.number - suc first)) =

@@ -3,11 +3,15 @@ use Rattle.std.proofs.Common.{◌≤◌, sym, ap, subst, arith, inl, inr}
 use Rattle.std.specs.Prelude.{◌⊎◌, if◌then◌else◌, List, [], ◌∷◌, ◌++◌, reverse, Contains}
 use Rattle.std.specs.List.{list_any}
 use Rattle.std.proofs.lemmas.List.Elements.{Contains-append_left, Contains-append_cases, Contains-push, Contains-push_cases}
+use Rattle.lists.specs.Distinct.{IsDistinct}
+use Rattle.lists.proofs.Tests.{list_any-contains, list_any-found}
+use Rattle.lists.proofs.Members.{Contains-cases, Contains-here, Contains-none, Contains-reverse, Contains-reversed, Contains-there, reverse-push}
+use Rattle.lists.proofs.Distinct.{IsDistinct-push}
+use Rattle.lists.proofs.Cases.{by_test}
 use Rattle.expansion_laws.specs.Trees.{Tree, Use, Uses, node, no_use, a_use, a_single, list_of, uses}
 use Rattle.expansion_laws.specs.Equality.{tree_eq}
 use Rattle.expansion_laws.specs.Measures.{depth, uses_depth, subtrees, subtrees_below}
 use Rattle.expansion_laws.specs.Written.{completed, completed_uses, flat}
-use Rattle.expansion_laws.proofs.Members.{by_test, Contains-here, Contains-there, Contains-cases, Contains-none, Contains-reverse, Contains-reversed, reverse-push, list_any-contains, list_any-found, Distinct, Distinct-push}
 use Rattle.expansion_laws.proofs.TreeEquality.{tree_eq-itself, tree_eq-same}
 use Rattle.expansion_laws.proofs.Subtrees.{subtrees-itself, subtrees-onward, subtrees-use}
 
@@ -56,17 +60,17 @@ mutual
   ]
 
 mutual
-  pub completed-once : (x : Tree) (done : List Tree) → Distinct done → Distinct (completed x done)
+  pub completed-once : (x : Tree) (done : List Tree) → IsDistinct done → IsDistinct (completed x done)
   completed-once (node k us) done d = by_test (list_any (tree_eq (node k us)) done)
-      (λ e. subst Distinct (λ i. if sym e i then done else completed_uses us done ++ node k us ∷ []) d)
-      (λ e. subst Distinct (λ i. if sym e i then done else completed_uses us done ++ node k us ∷ [])
-      (Distinct-push (completed_uses us done) (node k us) (completed_uses-once us done d)
+      (λ e. subst IsDistinct (λ i. if sym e i then done else completed_uses us done ++ node k us ∷ []) d)
+      (λ e. subst IsDistinct (λ i. if sym e i then done else completed_uses us done ++ node k us ∷ [])
+      (IsDistinct-push (completed_uses us done) (node k us) (completed_uses-once us done d)
       (λ m. elim (low-uses us done (node k us) m) [
         | inl a ↦ (let f = list_any-contains (tree_eq (node k us)) (node k us) done a (tree_eq-itself (node k us)) in absurd cc)
         | inr b ↦ omega (arith, b)
       ])))
 
-  completed_uses-once : (us : Uses) (done : List Tree) → Distinct done → Distinct (completed_uses us done)
+  completed_uses-once : (us : Uses) (done : List Tree) → IsDistinct done → IsDistinct (completed_uses us done)
   completed_uses-once no_use done d = d
   completed_uses-once (a_use t w x others) done d = completed_uses-once others (completed x done) (completed-once x done d)
 
@@ -88,7 +92,7 @@ module _ (P : Tree → Type 0) (closed : (x : Tree) → P x → (u : Use) → Co
         all_completed_uses others (completed x done) (λ u k. p u (Contains-there (a_single t w x) u (list_of others) k))
         (all_completed x done (p (a_single t w x) (Contains-here (a_single t w x) (list_of others))) h) y m
 
-pub flat-once : (x : Tree) → Distinct (flat x)
+pub flat-once : (x : Tree) → IsDistinct (flat x)
 flat-once x = completed-once x [] tt
 
 -- each thing of the list is a subtree

@@ -3,6 +3,7 @@ use Rattle.std.proofs.Common.{refl, sym, subst, inl, inr, cond}
 use Rattle.std.specs.Prelude.{◌≡◌, ◌⊎◌, ◌&&◌, Option, None, Some, List, [], ◌∷◌, map, Bool, true, false, filter, Contains, if◌then◌else◌}
 use Rattle.std.specs.List.{last_or}
 use Rattle.std.proofs.lemmas.List.Elements.{Contains-append_cases}
+use Rattle.lists.proofs.Members.{Contains-cases, Contains-here, Contains-map_cases, Contains-none, Contains-there}
 use Rattle.orientation.specs.declared.turn.Turn.{Turn}
 use Rattle.orientation.specs.Kinds.{kind_eq}
 use Rattle.location_words.specs.declared.pair.Pair.{Pair}
@@ -14,7 +15,6 @@ use Rattle.expansion_laws.specs.Steps.{Step, kind, moving_word, new_use, onward,
 use Rattle.expansion_laws.specs.Rewriting.{rebuilt}
 use Rattle.expansion_laws.specs.Derivations.{Derives, DeriveAll, stopped, unmatched, pruned, removed, replaced, none, next}
 use Rattle.expansion_laws.specs.Keeping.{Replaces, IsKept, RewritingKeeps}
-use Rattle.expansion_laws.proofs.Members.{Contains-here, Contains-there, Contains-cases, Contains-none, Contains-map_cases}
 use Rattle.expansion_laws.proofs.TreeEquality.{tree_eq-same}
 use Rattle.expansion_laws.proofs.Subtrees.{tree-parts}
 use Rattle.expansion_laws.proofs.LeastLemmas.{derived}

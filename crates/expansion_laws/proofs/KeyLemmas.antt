@@ -4,6 +4,8 @@ use Rattle.std.specs.Prelude.{◌≡◌, ℕ, zero, suc, Option, None, Some, is_
 use Rattle.std.proofs.lemmas.List.Elements.{Contains-append_left, Contains-append_right}
 use Rattle.std.specs.List.{list_any, flat_map}
 use Rattle.std.specs.Option.{option_map}
+use Rattle.lists.proofs.Tests.{list_any-contains}
+use Rattle.lists.proofs.Members.{Contains-flat_map, Contains-here, Contains-map, Contains-there}
 use Rattle.orientation.specs.declared.turn.Turn.{Turn}
 use Rattle.orientation.specs.declared.turn.Turn.TheVariants.{Forward}
 use Rattle.orientation.specs.Kinds.{kind_eq}
@@ -18,7 +20,6 @@ use Rattle.expansion_laws.specs.Steps.{Step, kind, entered, moving_word, new_use
 use Rattle.expansion_laws.specs.Rewriting.{joined, all_results, remains, by_act, by_match, results_within, RelativeResults}
 use Rattle.expansion_laws.specs.Graph.{trees_of, children, targets, edges}
 use Rattle.expansion_laws.specs.Keys.{ReachesPlace, ReachesTurn, Key, IsKey}
-use Rattle.expansion_laws.proofs.Members.{Contains-here, Contains-there, Contains-map, Contains-flat_map, list_any-contains}
 use Rattle.expansion_laws.proofs.MatchLemmas.{match-agree, match-live, match-none}
 
 -- the parts of two contexts that a tree's results may depend on are equal

@@ -1,6 +1,7 @@
 -- Whether a place or a turn is reached is decided along the walks from a tree, where these are bounded.
 use Rattle.std.proofs.Common.{◌≡◌, refl, sym, subst, arith, inl, inr, ◌∙◌}
 use Rattle.std.specs.Prelude.{◌⊎◌, ◌↔◌, ◌||◌, ℕ, zero, suc, Bool, true, false, List, [], ◌∷◌, Contains, IsTrue}
+use Rattle.lists.proofs.Members.{Contains-cases, Contains-here, Contains-none, Contains-there}
 use Rattle.graph_walks.specs.Walks.{itself, along, IsRankBound}
 use Rattle.expansion_laws.specs.Trees.{Tree}
 use Rattle.expansion_laws.specs.Contexts.{Context}
@@ -8,7 +9,6 @@ use Rattle.expansion_laws.specs.Steps.{Step}
 use Rattle.expansion_laws.specs.Graph.{edges, Reaches}
 use Rattle.expansion_laws.specs.Keys.{asks_place, asks_turn, Key, key, IsKey}
 use Rattle.expansion_laws.specs.KeyReach.{RankedTreesHaveOneKey, VisitsHaveKeys, ReachGoesByEnds}
-use Rattle.expansion_laws.proofs.Members.{Contains-here, Contains-there, Contains-cases, Contains-none}
 use Rattle.expansion_laws.proofs.UnconditionalLemmas.{visited-reached}
 
 pub either-first : (a b : Bool) → a ≡ true → (a || b) ≡ true

@@ -1,4 +1,3 @@
-pub mod Members
 pub mod TreeEquality
 pub mod Subtrees
 pub mod FileTrees
@@ -32,7 +31,6 @@ pub mod StepExampleLemmas
 pub mod UsualLemmas
 pub mod RuleExampleLemmas
 pub mod EndLemmas
-pub mod OnceLemmas
 pub mod MeasureLemmas
 pub mod MeasureExampleLemmas
 pub mod KeyReachLemmas

@@ -1,14 +1,19 @@
 -- The measures of a step are those of the plain slow lists.
 use Rattle.std.proofs.Common.{◌≡◌, refl, sym, ◌∙◌, ap, subst, inl, inr}
 use Rattle.std.proofs.lemmas.List.Elements.{Contains-append_left, Contains-append_right, Contains-append_cases}
-use Rattle.std.specs.Prelude.{◌≢◌, ◌⊎◌, ◌+◌, ◌&&◌, ℕ, zero, suc, Bool, true, false, Option, None, Some, is_some, is_none, unwrap_or, List, [], ◌∷◌, ◌++◌, map, filter, length, Contains, if◌then◌else◌}
-use Rattle.std.specs.List.{list_any, flat_map}
+use Rattle.std.specs.Prelude.{◌≢◌, ◌⊎◌, ◌+◌, ◌&&◌, ℕ, zero, suc, Bool, true, false, Option, None, Some, is_some, is_none, unwrap_or, List, [], ◌∷◌, ◌++◌, map, length, Contains, if◌then◌else◌}
+use Rattle.std.specs.List.{list_any, flat_map, list_all}
+use Rattle.lists.proofs.Sameness.{empty-of}
+use Rattle.lists.proofs.Distinct.{IsDistinct-filter}
+use Rattle.lists.specs.Distinct.{IsDistinct}
+use Rattle.lists.proofs.Tests.{list_any-contains, list_any-found, Contains-filter, Contains-filter_cases, list_all-each}
+use Rattle.lists.proofs.Members.{Contains-cases, Contains-flat_map, Contains-flat_map_cases, Contains-here, Contains-map, Contains-map_cases, Contains-none, Contains-there}
 use Rattle.orientation.specs.Turns.{turn_eq}
 use Rattle.location_words.specs.declared.pair.Pair.{Pair}
 use Rattle.location_words.specs.Pairs.{pairs_eq}
 use Rattle.location_words.specs.Equal.{pairs_decide}
 use Rattle.location_words.proofs.WordLaws.{IsWord-mul}
-use Rattle.graph_walks.specs.Walks.{itself, along, IsDistinct}
+use Rattle.graph_walks.specs.Walks.{itself, along}
 use Rattle.expansion_laws.specs.Trees.{Tree, Use, uses}
 use Rattle.expansion_laws.specs.Equality.{tree_eq}
 use Rattle.expansion_laws.specs.Measures.{subtrees}
@@ -19,10 +24,9 @@ use Rattle.expansion_laws.specs.Rewriting.{results_within, RelativeResults}
 use Rattle.expansion_laws.specs.Visits.{visits_within, IsVisit, itself as visit-itself}
 use Rattle.expansion_laws.specs.Graph.{edges, Reaches}
 use Rattle.expansion_laws.specs.Keys.{asks_place, asks_turn, Key, IsKey, IsKeyOfStep, context_of}
-use Rattle.expansion_laws.specs.WholeVisits.{list_all, is_whole}
+use Rattle.expansion_laws.specs.WholeVisits.{is_whole}
 use Rattle.expansion_laws.specs.StepMeasures.{uses_below, IsWordKeyOf, size_of, IsSize, IsUseCount, IsRemainingWord, IsWordMade, IsHeldTree}
 use Rattle.expansion_laws.specs.SlowMeasures.{option_eq, key_eq, is_ranked, reaches_within, key_within, parts_within, size_within, words_within, held_word, keys_listed, word_keys_listed, words_listed, held_listed, MeasuresAreListed, MeasuresByLists, HeldTreesByLists, MeasuresAreDetermined}
-use Rattle.expansion_laws.proofs.Members.{by_test, Contains-here, Contains-there, Contains-cases, Contains-none, Contains-map, Contains-map_cases, Contains-flat_map, Contains-flat_map_cases, list_any-contains, list_any-found}
 use Rattle.expansion_laws.proofs.TreeEquality.{tree_eq-same, tree_eq-itself, and-left, and-right, turn_eq-same, turn_eq-itself}
 use Rattle.expansion_laws.proofs.LevelLemmas.{Rewrites-one}
 use Rattle.expansion_laws.proofs.KeyLemmas.{match-same, results-same, results_depend_on_key_alone}
@@ -30,8 +34,8 @@ use Rattle.expansion_laws.proofs.KeyVisitLemmas.{same-for-key}
 use Rattle.expansion_laws.proofs.KeyReachLemmas.{one-key, either-first, either-second, either-cases}
 use Rattle.expansion_laws.proofs.ListedLemmas.{led}
 use Rattle.expansion_laws.proofs.UnconditionalLemmas.{visited-reached}
-use Rattle.expansion_laws.proofs.WholeLemmas.{list_all-each, whole-listed, whole-told, use-there, empty-of}
-use Rattle.expansion_laws.proofs.OnceLemmas.{once-has, once-of, once-distinct, counts-one, sum-same, sums-agree}
+use Rattle.expansion_laws.proofs.WholeLemmas.{whole-listed, whole-told, use-there}
+use Rattle.lists.proofs.Once.{once-has, once-of, once-distinct, counts-one, sum-same, sums-agree}
 
 -- ---- keys are one where the test says so
 option-same : {X : Type 0} (eq : X → X → Bool) → ((a b : X) → eq a b ≡ true → a ≡ b) → (o p : Option X) → option_eq eq o p ≡ true → o ≡ p
@@ -131,29 +135,6 @@ held-is (Some v) w m = elim (Contains-cases v w [] m) [ inl e ↦ ap Some e | in
 
 is-held : (o : Option (List Pair)) (w : List Pair) → o ≡ Some w → Contains (held_word o) w
 is-held o w e = subst (λ p. Contains (held_word p) w) (sym e) (Contains-here w [])
-
--- the members of a filtered list
-filter-has : {X : Type 0} (p : X → Bool) (xs : List X) (x : X) → Contains xs x → p x ≡ true → Contains (filter p xs) x
-filter-has p [] x m e = absurd (Contains-none x m)
-filter-has p (y ∷ xs) x m e = elim (Contains-cases y x xs m) [
-  | inl same ↦ (let f = subst (λ z. p z ≡ true) (sym same) e in subst (λ z. Contains (filter p (y ∷ xs)) z) same (rw f (Contains-here y (filter p xs))))
-  | inr k ↦ by_test (p y) (λ f. rw f (Contains-there y x (filter p xs) (filter-has p xs x k e))) (λ f. rw f (filter-has p xs x k e))
-]
-
-filter-of : {X : Type 0} (p : X → Bool) (xs : List X) (x : X) → Contains (filter p xs) x → Contains xs x × (p x ≡ true)
-filter-of p [] x m = absurd (Contains-none x m)
-filter-of p (y ∷ xs) x m = by_test (p y)
-    (λ f. elim (Contains-cases y x (filter p xs) (rw f at m)) [
-      | inl same ↦ (subst (λ z. Contains (y ∷ xs) z) same (Contains-here y xs), subst (λ z. p z ≡ true) same f)
-      | inr k ↦ (let r = filter-of p xs x k in (Contains-there y x xs r.0, r.1))
-    ])
-    (λ f. (let r = filter-of p xs x (rw f at m) in (Contains-there y x xs r.0, r.1)))
-
-filter-once : {X : Type 0} (p : X → Bool) (xs : List X) → IsDistinct xs → IsDistinct (filter p xs)
-filter-once p [] d = tt
-filter-once p (y ∷ xs) d = by_test (p y)
-    (λ f. rw f ((λ m. d.0 (filter-of p xs y m).0), filter-once p xs d.1))
-    (λ f. rw f (filter-once p xs d.1))
 
 -- the match of a visit is that of its key
 key-of-match : (s : Step) (x : Tree) (here : Context) (k : Key) → IsKey s x here k → match_of s.requests k.tree (context_of k) ≡ match_of s.requests x here
@@ -299,10 +280,10 @@ module _ (s : Step) (n : ℕ) (root : Use) (whole : is_whole s n root.tree (insi
     word_keys = (
       word_keys_listed s n root,
       (
-        filter-once (λ (k : Key). is_some k.word) (keys_listed s n root) keys-once,
+        IsDistinct-filter (λ (k : Key). is_some k.word) (keys_listed s n root) keys-once,
         λ k. (
-          (λ h. filter-has (λ (k : Key). is_some k.word) (keys_listed s n root) k (step-key k h.0) (filled-some k.word h.1)),
-          (λ m. (let r = filter-of (λ (k : Key). is_some k.word) (keys_listed s n root) k m in (listed-key k r.0, some-filled k.word r.1))),
+          (λ h. Contains-filter (λ (k : Key). is_some k.word) (keys_listed s n root) k (step-key k h.0) (filled-some k.word h.1)),
+          (λ m. (let r = Contains-filter_cases (λ (k : Key). is_some k.word) (keys_listed s n root) k m in (listed-key k r.0, some-filled k.word r.1))),
         ),
       ),
       refl,

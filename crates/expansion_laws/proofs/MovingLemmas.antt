@@ -3,6 +3,8 @@ use Rattle.std.proofs.Common.{◌≡◌, ◌<◌, ◌≤◌, ◌+◌, refl, sym,
 use Rattle.std.proofs.lemmas.List.{map-append}
 use Rattle.std.specs.Prelude.{ℕ, Bool, true, false, if◌then◌else◌, Option, None, Some, List, [], ◌∷◌, ◌++◌, map, length, filter}
 use Rattle.std.specs.List.{last_or}
+use Rattle.lists.proofs.Places.{map-place, split-at, take-at, take-map-all}
+use Rattle.lists.proofs.Cases.{by_test}
 use Rattle.location_words.specs.declared.pair.Pair.{Pair}
 use Rattle.location_words.specs.Pairs.{mul}
 use Rattle.location_words.specs.Faults.{fault_of}
@@ -18,7 +20,6 @@ use Rattle.expansion_laws.specs.Steps.{Step, kind}
 use Rattle.expansion_laws.specs.Plain.{shown_tree, shown_use}
 use Rattle.expansion_laws.specs.SlowParts.{Pass, Fail, IsDueWord, words_of, under}
 use Rattle.expansion_laws.specs.SlowRewriting.{later_words}
-use Rattle.expansion_laws.proofs.Members.{by_test, take-at, split-at, map-place, take-map-all}
 use Rattle.expansion_laws.proofs.Subtrees.{list_of-uses_of}
 use Rattle.expansion_laws.proofs.PlainLemmas.{tree-out}
 use Rattle.expansion_laws.proofs.SlowLemmas.{Pass-push, Fail-at}

@@ -2,6 +2,7 @@
 use Rattle.std.proofs.Common.{refl, sym, ap, subst, inl, inr, ◌∙◌}
 use Rattle.std.specs.Prelude.{◌≡◌, ℕ, zero, suc, Bool, true, false, if◌then◌else◌, Option, None, Some, List, [], ◌∷◌, map, Contains}
 use Rattle.std.proofs.lemmas.List.Elements.{Contains-append_left, Contains-append_right}
+use Rattle.lists.proofs.Members.{Contains-cases, Contains-here, Contains-map, Contains-map_cases, Contains-none}
 use Rattle.location_words.specs.Pairs.{IsWord}
 use Rattle.location_words.proofs.WordLaws.{IsWord-mul}
 use Rattle.expansion_laws.specs.Trees.{Tree, Use, origin, uses, tree_of}
@@ -13,7 +14,6 @@ use Rattle.expansion_laws.specs.Rewriting.{all_results, remains, results_within,
 use Rattle.expansion_laws.specs.Demands.{demands_by, demands, gathered_by, gathered}
 use Rattle.expansion_laws.specs.Visits.{LeadsTo, itself, onto}
 use Rattle.expansion_laws.specs.DerivedVisits.{VisitsResultsOccur}
-use Rattle.expansion_laws.proofs.Members.{Contains-here, Contains-cases, Contains-none, Contains-map, Contains-map_cases}
 use Rattle.expansion_laws.proofs.Subtrees.{list_of-uses_of, subtrees-itself, subtrees-use}
 use Rattle.expansion_laws.proofs.LevelLemmas.{Rewrites-one}
 use Rattle.expansion_laws.proofs.LeastLemmas.{joined-some, mapped-some}

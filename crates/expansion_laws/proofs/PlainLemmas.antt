@@ -2,11 +2,12 @@
 use Rattle.std.proofs.Common.{arith, ◌≡◌, ◌<◌, ◌≤◌, ◌+◌, refl, sym, ◌∙◌, ap, subst, slice_index_or, drop}
 use Rattle.std.proofs.lemmas.List.{drop_more, drop_all}
 use Rattle.std.specs.Prelude.{ℕ, suc, Bool, true, false, not, ◌==◌, ◌&&◌, List, [], ◌∷◌, map, length}
+use Rattle.lists.specs.Sameness.{is_empty}
 use Rattle.expansion_laws.specs.declared.plain.Tree.{Tree as PlainTree, Tree-F, out-Tree, roll-Tree, fold_out-Tree, fold-roll-Tree}
 use Rattle.expansion_laws.specs.declared.plain.TreeUse.{TreeUse, TreeUse-F, out-TreeUse, roll-TreeUse, fold_out-TreeUse, fold-roll-TreeUse}
 use Rattle.expansion_laws.specs.Trees.{Tree, Use, a_single, tree_of, uses_of, uses}
 use Rattle.expansion_laws.specs.Steps.{Step}
-use Rattle.expansion_laws.specs.Rewriting.{has_any, is_pruned}
+use Rattle.expansion_laws.specs.Rewriting.{is_pruned}
 use Rattle.expansion_laws.specs.Equality.{uses_eq, use_eq}
 use Rattle.expansion_laws.proofs.Subtrees.{list_of-uses_of}
 use Rattle.expansion_laws.specs.Plain.{tree_step, use_step, shown_tree, shown_use}
@@ -47,8 +48,8 @@ some-long us = some (length us)
 prune-by : (s : Step) (x : Tree) (us : List TreeUse) → uses x ≡ map shown_use us → (below : List TreeUse) →
     is_pruned s x (map shown_use below) ≡ (s.rule.prune && (not (length us == 0) && (length below == 0)))
 prune-by s x us e (v ∷ below) = sym (ap (λ b. s.rule.prune && (not (length us == 0) && b)) (some-long below) ∙ and-none s.rule.prune (not (length us == 0)))
-prune-by s x [] e [] = ap (λ l. s.rule.prune && has_any l) e
-prune-by s x (u ∷ us) e [] = ap (λ l. s.rule.prune && has_any l) e ∙ ap (λ b. s.rule.prune && (not b && true)) (sym (some-long us))
+prune-by s x [] e [] = ap (λ l. s.rule.prune && not (is_empty l)) e
+prune-by s x (u ∷ us) e [] = ap (λ l. s.rule.prune && not (is_empty l)) e ∙ ap (λ b. s.rule.prune && (not b && true)) (sym (some-long us))
 
 pub prune-is : (s : Step) (x : PlainTree) (below : List TreeUse) →
     is_pruned s (shown_tree x) (map shown_use below) ≡ (s.rule.prune && (not (length (out-Tree x).uses.items == 0) && (length below == 0)))

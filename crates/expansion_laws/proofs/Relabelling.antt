@@ -3,10 +3,10 @@ use Rattle.std.proofs.Common.{◌≡◌, refl, sym, ◌∙◌, ap}
 use Rattle.std.specs.Prelude.{suc, max, List, [], ◌∷◌, ◌++◌, map, Contains}
 use Rattle.std.proofs.lemmas.List.{map-append}
 use Rattle.std.proofs.lemmas.List.Elements.{Contains-append_left, Contains-append_right}
+use Rattle.lists.proofs.Members.{Contains-here, Contains-there}
 use Rattle.expansion_laws.specs.Trees.{LabelledTree, LabelledUses, LabelledUse, node, no_use, a_use, a_single, list_of, uses_of, uses, label_of}
 use Rattle.expansion_laws.specs.Measures.{depth, uses_depth, subtrees, subtrees_below}
 use Rattle.expansion_laws.specs.Sharing.{relabelled, relabelled_uses, relabelled_use}
-use Rattle.expansion_laws.proofs.Members.{Contains-here, Contains-there}
 -- the trees of files: what stands in an expansion
 pub use Rattle.expansion_laws.proofs.FileTrees.{subtree-is-record}
 

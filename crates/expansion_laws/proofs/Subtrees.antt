@@ -2,9 +2,9 @@
 use Rattle.std.proofs.Common.{◌≡◌, ◌≤◌, refl, sym, ap, subst, arith, inl, inr}
 use Rattle.std.specs.Prelude.{◌⊎◌, List, [], ◌∷◌, Contains}
 use Rattle.std.proofs.lemmas.List.Elements.{Contains-append_left, Contains-append_right, Contains-append_cases}
+use Rattle.lists.proofs.Members.{Contains-cases, Contains-here, Contains-none, Contains-there}
 use Rattle.expansion_laws.specs.Trees.{LabelledTree, LabelledUses, LabelledUse, node, no_use, a_use, a_single, list_of, uses_of, label_of, uses, tree_of}
 use Rattle.expansion_laws.specs.Measures.{depth, uses_depth, subtrees, subtrees_below}
-use Rattle.expansion_laws.proofs.Members.{Contains-here, Contains-there, Contains-cases, Contains-none}
 
 module _ {L : Type 0} where
   pub list_of-uses_of : (us : List (LabelledUse L)) → list_of (uses_of us) ≡ us

@@ -2,7 +2,9 @@
 use Rattle.std.proofs.Common.{refl, sym, ap, subst, inl, inr, cond, ◌∙◌}
 use Rattle.std.specs.Prelude.{◌≡◌, ◌⊎◌, Option, None, Some, List, [], ◌∷◌, ◌++◌, Bool, true, false, filter, Contains, if◌then◌else◌}
 use Rattle.std.specs.List.{last_or, list_any, flat_map}
-use Rattle.std.proofs.lemmas.List.Elements.{Contains-append_cases}
+use Rattle.std.proofs.lemmas.List.Elements.{Contains-append_cases, All-contains}
+use Rattle.lists.proofs.Members.{Contains-here, Contains-map_cases, Contains-none, Contains-there}
+use Rattle.lists.proofs.Cases.{by_test}
 use Rattle.graph_walks.specs.Walks.{along, itself as reached-itself}
 use Rattle.orientation.specs.declared.turn.Turn.TheVariants.{Forward}
 use Rattle.expansion_laws.specs.Trees.{Tree, Use}
@@ -13,7 +15,6 @@ use Rattle.expansion_laws.specs.Demands.{demands_of_act, demands_by, demands}
 use Rattle.expansion_laws.specs.Visits.{LeadsTo, itself, onto}
 use Rattle.expansion_laws.specs.Graph.{trees_of, targets, edges, Reaches}
 use Rattle.expansion_laws.specs.Unconditional.{IsPlain, EdgesAreDemands, ReachedIsVisited, VisitedIsReached}
-use Rattle.expansion_laws.proofs.Members.{by_test, Contains-here, Contains-there, Contains-none, Contains-map_cases, All-member}
 use Rattle.expansion_laws.proofs.MatchLemmas.{allows-unconditional, filter-filter, or-right}
 use Rattle.expansion_laws.proofs.KeyLemmas.{onward-targets}
 use Rattle.expansion_laws.proofs.VisitLemmas.{demand-edge}
@@ -66,7 +67,7 @@ module _ (s : Step) (x : Tree) (here : Context) where
       (from.0, subst (λ l. Contains l from.0) (sym (ap (demands_by s x here) e ∙ ap (demands_of_act s x here r.place) f)) from.1, from.2)
 
   pub edge-demand : (y : Tree) → IsPlain s x → Contains (edges s x) y → (v : Use) × Contains (demands s x here) v × (v.tree ≡ y)
-  edge-demand y plain m = go (alone here (requests_for s.requests x) (λ r n. All-member (λ r. is_unconditional r ≡ true) (live_requests s.requests x) r plain n))
+  edge-demand y plain m = go (alone here (requests_for s.requests x) (λ r n. All-contains (λ r. is_unconditional r ≡ true) (live_requests s.requests x) r plain n))
     where
       go : (requests_for s.requests x ≡ []) ⊎
           ((r : Request) × (live_requests s.requests x ≡ r ∷ []) × (list_any is_unconditional (requests_for s.requests x) ≡ true) × ((d : Option Request) → last_or d (filter (allows here) (requests_for s.requests x)) ≡ Some r)) →

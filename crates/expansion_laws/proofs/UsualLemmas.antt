@@ -1,6 +1,7 @@
 -- Under the usual rule only vertices aren't entered, and nothing is pruned.
 use Rattle.std.proofs.Common.{◌≡◌, refl, sym, ◌∙◌, ap}
 use Rattle.std.specs.Prelude.{false, if◌then◌else◌, List, [], ◌∷◌}
+use Rattle.lists.proofs.Cases.{by_test}
 use Rattle.orientation.specs.declared.kind.Kind.{Kind}
 use Rattle.orientation.specs.declared.kind.Kind.TheVariants.{Ve, Ed, Wi, Fa, Sh, So, CS, Co}
 use Rattle.orientation.specs.declared.rule.Rule.{Rule}
@@ -9,7 +10,6 @@ use Rattle.expansion_laws.specs.Trees.{Tree, Use, uses, origin, tree_of, a_singl
 use Rattle.expansion_laws.specs.Steps.{Step, kind, is_entered, entered}
 use Rattle.expansion_laws.specs.Rewriting.{rebuilt, is_pruned, remains}
 use Rattle.expansion_laws.specs.UsualRule.{UsualRuleGoesThroughAll}
-use Rattle.expansion_laws.proofs.Members.{by_test}
 use Rattle.expansion_laws.proofs.Subtrees.{tree-parts}
 use Rattle.expansion_laws.proofs.PartLemmas.{remains-stopped, remains-rebuilt}
 

@@ -3,6 +3,7 @@ use Rattle.std.proofs.Common.{refl, sym, ap, arith, ◌∙◌}
 use Rattle.std.specs.Prelude.{◌≡◌, ◌≤◌, ◌+◌, ℕ, zero, suc, Option, None, Some, List, [], ◌∷◌, ◌++◌, map, length, Contains}
 use Rattle.std.specs.List.{flat_map}
 use Rattle.std.specs.Option.{option_map}
+use Rattle.lists.proofs.Members.{Contains-here, Contains-none, Contains-there}
 use Rattle.orientation.proofs.TurnLaws.{composed-forward}
 use Rattle.location_words.specs.declared.pair.Pair.{Pair}
 use Rattle.location_words.specs.Pairs.{IsWord}
@@ -14,7 +15,6 @@ use Rattle.expansion_laws.specs.Steps.{Step, entered, new_use, onward}
 use Rattle.expansion_laws.specs.Rewriting.{joined, all_results, remains, by_act, by_match, results_within, Rewrites}
 use Rattle.expansion_laws.specs.Demands.{demands_of_act, demands_by, gathered_by, demands, gathered}
 use Rattle.expansion_laws.specs.Graph.{edges}
-use Rattle.expansion_laws.proofs.Members.{Contains-here, Contains-there, Contains-none}
 use Rattle.expansion_laws.proofs.CarriedLemmas.{all_carried, results-relative}
 use Rattle.expansion_laws.proofs.LevelLemmas.{more, kept-at}
 use Rattle.expansion_laws.proofs.LeastLemmas.{results-next, all-more}

@@ -1,7 +1,10 @@
 -- A list of visits to which nothing is asked further has them all.
-use Rattle.std.proofs.Common.{refl, sym, ap, subst, arith, inl, inr, ◌∙◌}
-use Rattle.std.specs.Prelude.{◌≡◌, ◌&&◌, ◌+◌, ℕ, zero, suc, Bool, true, false, Option, Some, List, [], ◌∷◌, map, Contains}
+use Rattle.std.proofs.Common.{refl, sym, ap, subst, arith, ◌∙◌}
+use Rattle.std.specs.Prelude.{◌≡◌, ◌+◌, ℕ, zero, suc, true, Option, Some, List, map, Contains}
 use Rattle.std.specs.Option.{option_map}
+use Rattle.lists.proofs.Sameness.{empty-of}
+use Rattle.lists.proofs.Tests.{list_all-each}
+use Rattle.lists.proofs.Members.{Contains-none}
 use Rattle.location_words.specs.Pairs.{IsWord}
 use Rattle.location_words.proofs.WordLaws.{IsWord-mul}
 use Rattle.expansion_laws.specs.Trees.{Tree, Use}
@@ -10,26 +13,11 @@ use Rattle.expansion_laws.specs.Steps.{Step}
 use Rattle.expansion_laws.specs.Demands.{demands, gathered}
 use Rattle.expansion_laws.specs.Rewriting.{all_results, results_within}
 use Rattle.expansion_laws.specs.Visits.{LeadsTo, itself, onto, visits_within}
-use Rattle.expansion_laws.specs.WholeVisits.{list_all, is_empty, is_whole, WholeListsHoldAll}
-use Rattle.expansion_laws.proofs.Members.{Contains-cases, Contains-none}
+use Rattle.expansion_laws.specs.WholeVisits.{is_whole, WholeListsHoldAll}
 use Rattle.expansion_laws.proofs.LevelLemmas.{more, kept-at}
 use Rattle.expansion_laws.proofs.VisitLemmas.{inside-bare, visit-next, all-there}
 use Rattle.expansion_laws.proofs.ListedLemmas.{led, listed-first, listed-onto}
 use Rattle.expansion_laws.proofs.AlikeLemmas.{results-alike, trees, trees-some}
-
-and-parts : (a b : Bool) → (a && b) ≡ true → (a ≡ true) × (b ≡ true)
-and-parts true b e = (refl, e)
-and-parts false b e = absurd cc
-
-pub list_all-each : {X : Type 0} (p : X → Bool) (xs : List X) → list_all p xs ≡ true → (x : X) → Contains xs x → p x ≡ true
-list_all-each p [] e x m = absurd (Contains-none x m)
-list_all-each p (y ∷ xs) e x m =
-    let parts = and-parts (p y) (list_all p xs) e in
-    elim (Contains-cases y x xs m) [ inl same ↦ subst (λ z. p z ≡ true) same parts.0 | inr k ↦ list_all-each p xs parts.1 x k ]
-
-pub empty-of : {X : Type 0} (xs : List X) → is_empty xs ≡ true → xs ≡ []
-empty-of [] e = refl
-empty-of (x ∷ xs) e = absurd cc
 
 mapped-there : (f : List Use → List Use) (o : Option (List Use)) (a : List Use) → o ≡ Some a → (b : List Use) × (option_map f o ≡ Some b)
 mapped-there f o a e = (f a, ap (option_map f) e)

@@ -1,24 +1,22 @@
 -- The records of a root's distinct subtrees expand to the root again.
-use Rattle.std.proofs.Common.{◌≡◌, ◌<◌, ◌≤◌, ◌+◌, ◌-◌, refl, sym, ◌∙◌, ap, subst, arith, get_or}
-use Rattle.std.specs.Prelude.{ℕ, suc, Some, List, [], ◌∷◌, map, length, reverse, All, Contains, slice_get, unwrap_or}
+use Rattle.std.proofs.Common.{◌≡◌, ◌<◌, ◌≤◌, ◌+◌, ◌-◌, refl, sym, ◌∙◌, ap, subst, arith}
+use Rattle.std.specs.Prelude.{ℕ, suc, Some, List, [], ◌∷◌, map, length, reverse, Contains, slice_get, unwrap_or}
 use Rattle.std.proofs.lemmas.List.{length-reverse, length-map}
-use Rattle.std.proofs.lemmas.List.Elements.{Contains-get_or}
 use Rattle.std.proofs.lemmas.Option.{slice_get_within, slice_get-map}
 use Rattle.std.specs.Option.{option_map}
+use Rattle.lists.proofs.Each.{All-from_members}
+use Rattle.lists.proofs.Places.{Contains-at, at_place, map-at, place_of, slice_get-reverse}
+use Rattle.lists.proofs.Members.{Contains-here, Contains-map_cases, Contains-reverse, Contains-reversed, Contains-there, map-reverse, reverse-push}
 use Rattle.expansion_laws.specs.Trees.{Tree, Use, Uses, node, no_use, a_use, a_single, list_of, uses_of, uses, origin, tree_of}
 use Rattle.expansion_laws.specs.Measures.{depth, subtrees}
 use Rattle.expansion_laws.specs.Expansion.{NumberedUse, expanded, trees_from, trees_of_file, tree_of_number, expansion, NamesAbove, IsNumberOf, IsFile}
 use Rattle.expansion_laws.specs.Sharing.{relabelled_uses, with_origins, use_with_origins}
 use Rattle.expansion_laws.specs.Written.{completed_uses, flat, number_in, numbered, records_of, origins_of, ListsSubtrees, IsWritten}
-use Rattle.expansion_laws.proofs.Members.{Contains-here, Contains-there, Contains-map_cases, Contains-reverse, Contains-reversed, Contains-at, place_of, at_place, slice_get-reverse, map-at, map-reverse, reverse-push}
 use Rattle.expansion_laws.proofs.Subtrees.{depth-subtree, subtrees-itself}
 use Rattle.expansion_laws.proofs.FileTrees.{subtree-is-record}
 use Rattle.expansion_laws.proofs.Relabelling.{depth-relabelled, subtrees-relabelled}
 use Rattle.expansion_laws.proofs.FlatLemmas.{UsesFollow, flat-once, flat-stand, flat-all, flat-follow}
 use Rattle.expansion_laws.proofs.NumberLemmas.{number_in-has, number_in-at}
-
-pub All-from : {X : Type 0} (P : X → Type 0) (xs : List X) → ((x : X) → Contains xs x → P x) → All P xs
-All-from P xs h = λ k d lt. h (get_or xs k d) (Contains-get_or xs k d lt)
 
 -- trees, numbered among all that are written, and given in the order of their numbers from `first` on
 module _ (trees : List Tree) (origin_of : ℕ → ℕ) where
@@ -76,7 +74,7 @@ module _ (trees : List Tree) (origin_of : ℕ → ℕ) where
   names-above : (first : ℕ) (given : List Tree) → UsesFollow given → IsPlaced first given → NamesAbove first (map record_of given)
   names-above first [] follow p = tt
   names-above first (x ∷ rest) follow p = (
-    All-from (λ (u : NumberedUse). (first < u.number) × (u.number ≤ first + length (map record_of rest))) (record_of x)
+    All-from_members (λ (u : NumberedUse). (first < u.number) × (u.number ≤ first + length (map record_of rest))) (record_of x)
         (λ v m.
         let named = Contains-map_cases (numbered trees) v (uses x) m in
         let bounds = placed-later first x rest p named.0.tree (follow.0 named.0 named.1) in

@@ -1,6 +1,6 @@
 -- The ends of an edge under a sign, and when the ends of two edges are the same.
-use Rattle.std.specs.Prelude.{◌≡◌, ◌↔◌, ℕ, Bool, true, false, Option, None, Some, List, [], ◌∷◌, map, IsPermutation, if◌then◌else◌}
-use Rattle.std.specs.Option.{option_map}
+use Rattle.std.specs.Prelude.{◌≡◌, ◌↔◌, ℕ, Bool, true, false, List, [], ◌∷◌, map, IsPermutation}
+use Rattle.lists.specs.Sameness.{same_things}
 use Rattle.orientation.specs.declared.turn.Turn.{Turn}
 use Rattle.orientation.specs.declared.turn.Turn.TheVariants.{Forward, Reversed}
 use Rattle.orientation.specs.Turns.{composed}
@@ -18,23 +18,6 @@ abbrev pub HaveEqualEnds : Tree → Turn → Tree → Type 0
 HaveEqualEnds first sign second = IsPermutation (ends_under Forward first) (ends_under sign second)
 
 -- ---- a test of it
--- whether there is something, and it passes the test
-abbrev pub is_some_and : {X : Type 0} → (X → Bool) → Option X → Bool
-is_some_and test None = false
-is_some_and test (Some x) = test x
-
-module _ {X : Type 0} (eq : X → X → Bool) where
-  -- the list without the first thing that is this one, where it has one
-  abbrev pub taken_out : X → List X → Option (List X)
-  taken_out u [] = None
-  taken_out u (v ∷ vs) = if eq u v then Some vs else option_map (λ rest. v ∷ rest) (taken_out u vs)
-
-  -- whether the second list has the things of the first one, with repeats and in whatever order
-  abbrev pub same_things : List X → List X → Bool
-  same_things [] [] = true
-  same_things [] (v ∷ vs) = false
-  same_things (u ∷ us) vs = is_some_and (λ rest. same_things us rest) (taken_out u vs)
-
 abbrev pub have_equal_ends : Tree → Turn → Tree → Bool
 have_equal_ends first sign second = same_things use_eq (ends_under Forward first) (ends_under sign second)
 

@@ -1,6 +1,7 @@
 -- Rewriting by a bounded function: the results of a use, where a derivation of at most so many levels gives them.
-use Rattle.std.specs.Prelude.{◌≡◌, ◌&&◌, ℕ, zero, suc, Bool, true, false, if◌then◌else◌, Option, None, Some, List, [], ◌∷◌, ◌++◌}
+use Rattle.std.specs.Prelude.{◌≡◌, ◌&&◌, not, ℕ, zero, suc, Bool, false, if◌then◌else◌, Option, None, Some, List, [], ◌∷◌, ◌++◌}
 use Rattle.std.specs.Option.{option_map}
+use Rattle.lists.specs.Sameness.{is_empty}
 use Rattle.location_words.specs.declared.pair.Pair.{Pair}
 use Rattle.expansion_laws.specs.Trees.{Tree, Use, a_single, origin, uses, tree_of}
 use Rattle.expansion_laws.specs.Contexts.{Context, at_root, inside, bare}
@@ -22,14 +23,9 @@ all_results results (u ∷ us) = joined (results u) (all_results results us)
 abbrev pub rebuilt : Use → List Use → Use
 rebuilt u below = a_single u.turn u.word (tree_of (origin u.tree) below)
 
--- whether a list has a thing
-abbrev pub has_any : {X : Type 0} → List X → Bool
-has_any [] = false
-has_any (x ∷ xs) = true
-
 -- whether an entered tree goes with its uses: the prune mark is on, it has a use, and nothing comes of its uses
 abbrev pub is_pruned : Step → Tree → List Use → Bool
-is_pruned s x [] = s.rule.prune && has_any (uses x)
+is_pruned s x [] = s.rule.prune && not (is_empty (uses x))
 is_pruned s x (v ∷ vs) = false
 
 -- what remains of a use without a match: the use itself where its tree isn't entered; else the use over the results of its

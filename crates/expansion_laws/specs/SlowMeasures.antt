@@ -1,6 +1,8 @@
 -- The measures of a step by plain slow lists: all visits one by one, and their keys.
 use Rattle.std.specs.Prelude.{◌≡◌, ◌↔◌, ◌&&◌, ◌||◌, ℕ, zero, suc, Bool, true, false, Option, None, Some, is_some, is_none, unwrap_or, List, [], ◌∷◌, ◌++◌, map, filter, length, sum_by, Contains, if◌then◌else◌}
-use Rattle.std.specs.List.{list_any, flat_map}
+use Rattle.std.specs.List.{list_any, flat_map, list_all}
+use Rattle.lists.specs.Sameness.{is_empty}
+use Rattle.lists.specs.Distinct.{Counts, ListsEachOnce, each_once}
 use Rattle.orientation.specs.Turns.{turn_eq}
 use Rattle.location_words.specs.declared.pair.Pair.{Pair}
 use Rattle.location_words.specs.Pairs.{pairs_eq}
@@ -14,13 +16,8 @@ use Rattle.expansion_laws.specs.Rewriting.{results_within}
 use Rattle.expansion_laws.specs.Visits.{visits_within}
 use Rattle.expansion_laws.specs.Graph.{edges}
 use Rattle.expansion_laws.specs.Keys.{asks_place, asks_turn, Key, key, IsKeyOfStep, context_of}
-use Rattle.expansion_laws.specs.WholeVisits.{list_all, is_empty, is_whole}
-use Rattle.expansion_laws.specs.StepMeasures.{ListsEachOnce, Counts, IsWordKeyOf, IsWordOfKey, size_of, IsUseCount, IsWordMade, IsHeldTree}
-
--- a list without what comes again later in it
-abbrev pub each_once : {X : Type 0} → (X → X → Bool) → List X → List X
-each_once eq [] = []
-each_once eq (x ∷ xs) = if list_any (eq x) xs then each_once eq xs else x ∷ each_once eq xs
+use Rattle.expansion_laws.specs.WholeVisits.{is_whole}
+use Rattle.expansion_laws.specs.StepMeasures.{IsWordKeyOf, IsWordOfKey, size_of, IsUseCount, IsWordMade, IsHeldTree}
 
 -- whether both are there and are one, or neither is there
 abbrev pub option_eq : {X : Type 0} → (X → X → Bool) → Option X → Option X → Bool

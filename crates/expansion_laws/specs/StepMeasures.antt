@@ -1,6 +1,6 @@
 -- The measures of a step, over its visits and their keys.
-use Rattle.std.specs.Prelude.{◌≡◌, ◌≢◌, ◌⊎◌, ◌↔◌, ◌&&◌, true, ℕ, ◌+◌, None, Some, List, map, length, sum, sum_by, Contains, if◌then◌else◌, is_none}
-use Rattle.graph_walks.specs.Walks.{IsDistinct}
+use Rattle.std.specs.Prelude.{◌≡◌, ◌≢◌, ◌⊎◌, ◌&&◌, true, ℕ, ◌+◌, None, Some, List, map, length, sum, sum_by, Contains, if◌then◌else◌, is_none}
+use Rattle.lists.specs.Distinct.{ListsEachOnce}
 use Rattle.location_words.specs.declared.pair.Pair.{Pair}
 use Rattle.expansion_laws.specs.Trees.{Tree, Use, uses}
 use Rattle.expansion_laws.specs.Measures.{OccursIn}
@@ -10,14 +10,6 @@ use Rattle.expansion_laws.specs.Steps.{Step, is_entered}
 use Rattle.expansion_laws.specs.Rewriting.{Rewrites, RelativeResults}
 use Rattle.expansion_laws.specs.Visits.{IsVisit}
 use Rattle.expansion_laws.specs.Keys.{Key, IsKey, IsKeyOfStep}
-
--- a list has exactly the things of which a fact holds, each once
-abbrev pub ListsEachOnce : {X : Type 0} → List X → (X → Type 0) → Type 0
-ListsEachOnce {X} xs P = IsDistinct xs × ((x : X) → P x ↔ Contains xs x)
-
--- as many things as this have the fact
-abbrev pub Counts : {X : Type 0} → (X → Type 0) → ℕ → Type 0
-Counts {X} P n = (xs : List X) × ListsEachOnce xs P × (length xs ≡ n)
 
 -- the keys of a step that hold a word, and the words of these
 abbrev pub IsWordKeyOf : Step → Use → Key → Type 0

@@ -16,6 +16,3 @@ pub use plain::{Tree, TreeUse, same_tree};
 pub use records::{PlainRecord, PlainUse, PlainUses};
 pub use requests::SlowRequest;
 pub use rewriting::rewrite_slow;
-
-#[cfg(test)]
-mod tests;

@@ -3,8 +3,8 @@ use Rattle.std.proofs.Common.{◌≡◌, refl, sym, ◌∙◌, ap, subst, inl, i
 use Rattle.std.specs.Prelude.{Option, Some, List, [], ◌∷◌, ◌++◌, map, reverse, Contains}
 use Rattle.std.specs.Option.{option_map}
 use Rattle.std.proofs.lemmas.List.{map-append, reverse-append}
+use Rattle.lists.proofs.Members.{Contains-cases, Contains-here, Contains-map, Contains-none, Contains-there}
 use Rattle.graph_walks.specs.Walks.{Searches, SearchesEach, closes, enters, no_more, finds, passes, IsFinishOrder}
-use Rattle.graph_walks.proofs.Members.{Contains-here, Contains-there, Contains-cases, Contains-none, Contains-map}
 
 module _ {X Y : Type 0} (f : X → Y) where
   pub Contains-from_map : (xs : List X) (y : Y) → Contains (map f xs) y → (x : X) × Contains xs x × (f x ≡ y)

@@ -2,8 +2,8 @@
 use Rattle.std.proofs.Common.{◌≡◌, refl, sym, ◌∙◌, ap, subst, arith}
 use Rattle.std.proofs.lemmas.List.{length-map}
 use Rattle.std.specs.Prelude.{ℕ, Bool, true, List, [], ◌∷◌, map, length, Contains}
+use Rattle.lists.proofs.Members.{Contains-map}
 use Rattle.graph_walks.specs.Walks.{Reaches, itself, along, IsWalkFrom, IsRank, StandsFor, Carries}
-use Rattle.graph_walks.proofs.Members.{Contains-map}
 use Rattle.graph_walks.proofs.Carried.{Contains-from_map}
 
 module _ {X Y : Type 0} (f : X → Y) (ends : X → List X) (edges : Y → List Y) (is_held : X → Bool)

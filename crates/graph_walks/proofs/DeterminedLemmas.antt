@@ -2,8 +2,9 @@
 use Rattle.std.proofs.Common.{◌≡◌, ◌≢◌, refl, sym, ◌∙◌, ap, subst, arith}
 use Rattle.std.specs.Prelude.{ℕ, Option, None, Some, List, [], ◌∷◌, ◌++◌, reverse, Contains}
 use Rattle.std.proofs.lemmas.List.Elements.{Contains-append_right}
-use Rattle.graph_walks.specs.Walks.{itself, IsWalkFrom, IsCycle, HasCycle, IsRank, IsDistinct, Searches, SearchesEach, closes, enters, no_more, finds, passes, WalksAreDetermined}
-use Rattle.graph_walks.proofs.Members.{Contains-here}
+use Rattle.lists.specs.Distinct.{IsDistinct}
+use Rattle.lists.proofs.Members.{Contains-here}
+use Rattle.graph_walks.specs.Walks.{itself, IsWalkFrom, IsCycle, HasCycle, IsRank, Searches, SearchesEach, closes, enters, no_more, finds, passes, WalksAreDetermined}
 use Rattle.graph_walks.proofs.WalkLaws.{no_cycle, closed, walk-reached}
 
 heads : {X : Type 0} {x y : X} {xs ys : List X} → x ∷ xs ≡ y ∷ ys → x ≡ y

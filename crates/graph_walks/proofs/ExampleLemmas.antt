@@ -2,11 +2,11 @@
 use Rattle.std.proofs.Common.{◌≡◌, ◌≢◌, ◌<◌, refl, subst, arith, inl, inr, slice_index_or}
 use Rattle.std.proofs.lemmas.List.Elements.{All-nil, All-cons}
 use Rattle.std.specs.Prelude.{ℕ, List, [], ◌∷◌, Contains}
+use Rattle.lists.proofs.Members.{Contains-cases, Contains-here, Contains-none, Contains-reversed, Contains-there}
 use Rattle.graph_walks.specs.Graph.{ends_of}
 use Rattle.graph_walks.specs.Search.{IsOrderFrom}
 use Rattle.graph_walks.specs.Walks.{Reaches, itself, along, HasCycle, IsCycle, IsFirstCycle, IsFinishOrder, IsRank, enters, finds, closes}
 use Rattle.graph_walks.specs.Examples.{one_apart, OrdersComeOut, loop_apart, two_loops, CyclesComeOut, way_round, RanksComeOut}
-use Rattle.graph_walks.proofs.Members.{Contains-here, Contains-there, Contains-cases, Contains-none, Contains-reverse}
 use Rattle.graph_walks.proofs.WalkLaws.{stays, no_cycle}
 use Rattle.graph_walks.proofs.DeterminedLemmas.{determined}
 use Rattle.graph_walks.proofs.RankLaws.{rank-next}
@@ -35,7 +35,7 @@ apart-listed x m = elim (Contains-cases 1 x (0 ∷ []) m) [
 apart-order : IsOrderFrom one_apart 0 (1 ∷ 0 ∷ [])
 apart-order = record {
   finishes = apart-finishes;
-  reached = λ x. (apart-listed x, λ r. Contains-reverse (1 ∷ 0 ∷ []) x (apart-reached x r));
+  reached = λ x. (apart-listed x, λ r. Contains-reversed x (1 ∷ 0 ∷ []) (apart-reached x r));
   nodes = All-cons (λ (x : ℕ). x < 3) 1 (0 ∷ []) (omega arith)
       (All-cons (λ (x : ℕ). x < 3) 0 [] (omega arith) (All-nil (λ (x : ℕ). x < 3)));
 }

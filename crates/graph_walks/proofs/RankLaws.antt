@@ -6,7 +6,8 @@ use Rattle.std.proofs.Common.{take, drop, ◌++◌, slice_index_or, All, set}
 use Rattle.std.specs.Prelude.{reverse}
 use Rattle.std.proofs.lemmas.List.{reverse-append, take-append-drop, drop_more, take_more, get_or-set_same, get_or-set_other}
 use Rattle.std.proofs.lemmas.List.Elements.{Contains-append_left, Contains-append_right, All-set, All-contains, Contains-push_cases}
-use Rattle.graph_walks.proofs.Members.{Contains-first, Contains-reverse, Contains-here, Contains-there, Contains-cases, Contains-none, same_or_not}
+use Rattle.lists.proofs.Members.{Contains-cases, Contains-first, Contains-here, Contains-none, Contains-reversed, Contains-there}
+use Rattle.lists.proofs.Cases.{same_or_not}
 
 pub by_order : {P : Type 0} (m n : ℕ) → (m ≤ n → P) → (n ≤ m → P) → P
 by_order zero n f g = f (omega arith)
@@ -66,7 +67,7 @@ module _ {X : Type 0} (edges : X → List X) where
       ap (λ l. l ++ reverse (take k order)) (reverse-append (x ∷ []) (drop (k + 1) order)) in
       let last = finish-later (reverse (drop (k + 1) order)) (x ∷ reverse (take k order))
       (subst (IsFinishOrder edges) (turned ∙ push-through (reverse (drop (k + 1) order)) x (reverse (take k order))) o) in
-      Contains-reverse (take k order) y (last.0 y m)
+      Contains-reversed y (take k order) (last.0 y m)
 
 -- ranks by a list
 rank-more : (rank : ℕ → ℕ) (ys : List ℕ) (y : ℕ) → rank_over rank (ys ++ y ∷ []) ≡ max (rank_over rank ys) (suc (rank y))

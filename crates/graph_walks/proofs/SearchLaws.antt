@@ -4,13 +4,15 @@ use Rattle.std.proofs.lemmas.List.{length-set, take_all, drop_all, take_more, dr
 use Rattle.std.proofs.lemmas.List.Elements.{All-cons, All-head, All-tail, Contains-push_cases, Contains-get_or}
 use Rattle.std.proofs.lemmas.Option.{slice_get_within, get_or_from_slice_get}
 use Rattle.std.specs.Prelude.{ℕ, ◌⊎◌, ◌↔◌, Option, None, Some, List, [], ◌∷◌, ◌++◌, length, reverse, take, drop, All, Contains}
+use Rattle.lists.proofs.Places.{slice_get-set-other, slice_get-set_same}
+use Rattle.lists.proofs.Members.{Contains-cases, Contains-first, Contains-here, Contains-none, Contains-there}
+use Rattle.lists.proofs.Cases.{same_or_not}
 use Rattle.graph_walks.specs.declared.depth_first.Frame.{Frame}
 use Rattle.graph_walks.specs.declared.depth_first.Mark.{Mark}
 use Rattle.graph_walks.specs.declared.depth_first.Mark.TheVariants.{New, OnPath, Done}
 use Rattle.graph_walks.specs.Walks.{Reaches, Searches, SearchesEach, closes, enters, no_more, finds, passes, IsFirstCycle}
 use Rattle.graph_walks.specs.Graph.{ends_of}
 use Rattle.graph_walks.specs.Search.{path_of, Resumes, IsWithin, IsGone, IsSearch}
-use Rattle.graph_walks.proofs.Members.{Contains-here, Contains-there, Contains-first, Contains-cases, Contains-none, slice_get-set_same, slice_get-set-other, same_or_not}
 use Rattle.graph_walks.proofs.WalkLaws.{finds_none, reaches-further}
 
 -- the next edge of a frame

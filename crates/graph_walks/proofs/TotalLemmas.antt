@@ -3,16 +3,9 @@ use Rattle.std.proofs.Common.{◌≡◌, ◌≢◌, ◌≤◌, refl, sym, ◌∙
 use Rattle.std.proofs.lemmas.List.{length-append}
 use Rattle.std.proofs.lemmas.List.Elements.{Contains-append_left, Contains-append_right, Contains-append_cases}
 use Rattle.std.specs.Prelude.{ℕ, zero, suc, max, ◌⊎◌, Bool, true, false, Option, None, Some, List, [], ◌∷◌, ◌++◌, length, reverse, Contains}
+use Rattle.lists.proofs.Members.{split_by, Contains-cases, Contains-here, Contains-none, Contains-there}
 use Rattle.graph_walks.specs.Walks.{Reaches, itself, along, IsWalkFrom, HasCycle, IsRank, Searches, SearchesEach, closes, enters, no_more, finds, passes, IsFirstCycle}
-use Rattle.graph_walks.proofs.Members.{Contains-here, Contains-there, Contains-cases, Contains-none}
 use Rattle.graph_walks.proofs.RankLaws.{by_order}
-
-split : {X : Type 0} (ys : List X) (x : X) → Contains ys x → (a : List X) × (b : List X) × (ys ≡ a ++ x ∷ b)
-split [] x m = absurd (Contains-none x m)
-split (y ∷ ys) x m = elim (Contains-cases y x ys m) [
-  | inl e ↦ ([], ys, ap (λ z. z ∷ ys) e)
-  | inr k ↦ let s = split ys x k in (y ∷ s.0, s.1, ap (λ l. y ∷ l) s.2)
-]
 
 module _ {X : Type 0} (edges : X → List X) where
   -- ---- nothing found
@@ -152,7 +145,7 @@ module _ {X : Type 0} (edges : X → List X) where
     total-from zero left path x le h =
         step-total path x left (find-split path x) (first-of left path x h) (λ m. absurd (let a = m.1 in omega (arith, a, le)))
     total-from (suc n) left path x le h = step-total path x left (find-split path x) (first-of left path x h) (λ m y k.
-        (let s = split left x m in
+        (let s = split_by left x m in
         let a = ap length s.2 in let b = length-append s.0 (x ∷ s.1) in let c = length-append s.0 s.1 in
         total-from n (s.0 ++ s.1) (x ∷ path) y (omega (arith, a, b, c, le)) (left-less left path x s.0 s.1 s.2 h y k)))
 

@@ -4,13 +4,15 @@ use Rattle.std.proofs.lemmas.List.{reverse-append, reverse-reverse, map-append, 
 use Rattle.std.proofs.lemmas.List.Elements.{All-nil, All-cons, All-contains, Contains-get_or}
 use Rattle.std.proofs.lemmas.Option.{slice_get_within}
 use Rattle.std.specs.Prelude.{ℕ, zero, suc, ◌↔◌, Option, Some, List, [], ◌∷◌, ◌++◌, length, reverse, All, Contains, replicate}
+use Rattle.lists.proofs.Places.{slice_get-set-other, slice_get-set_same}
+use Rattle.lists.proofs.Members.{Contains-cases, Contains-first, Contains-here, Contains-none, Contains-reverse, Contains-reversed, reverse-push}
+use Rattle.lists.proofs.Cases.{same_or_not}
 use Rattle.graph_walks.specs.declared.depth_first.Frame.{Frame}
 use Rattle.graph_walks.specs.declared.depth_first.Mark.{Mark}
 use Rattle.graph_walks.specs.declared.depth_first.Mark.TheVariants.{New, OnPath, Done}
 use Rattle.graph_walks.specs.Graph.{ends_of, EndsAreNodes}
 use Rattle.graph_walks.specs.Walks.{Reaches, itself, along, Searches, enters, IsFirstCycle}
 use Rattle.graph_walks.specs.Search.{IsCycleFrom, IsOrderFrom, path_of, Resumes, IsWithin, IsGone, IsSearch}
-use Rattle.graph_walks.proofs.Members.{Contains-here, Contains-first, Contains-cases, Contains-none, Contains-reverse, Contains-reversed, reverse-push, slice_get-set_same, slice_get-set-other, same_or_not}
 use Rattle.graph_walks.proofs.WalkLaws.{stays, closed, cycle-reached}
 use Rattle.graph_walks.proofs.SearchLaws.{IsNext, found}
 
@@ -66,7 +68,7 @@ module _ {graph : List (List ℕ)} {root : ℕ} {marks : List Mark} {done : List
 
     -- a node that is marked so stands on the path
     pub stands : (y : ℕ) → slice_get marks y ≡ Some OnPath → Contains (path_of path) y
-    stands y m = Contains-reverse (path_of path) y (subst (λ l. Contains l y) nodes-turned ((s.marked y).1 m))
+    stands y m = Contains-reversed y (path_of path) (subst (λ l. Contains l y) nodes-turned ((s.marked y).1 m))
 
     pub cycle-found : (y : ℕ) (older newer walk : List ℕ) → IsNext graph top y → path_of path ≡ older ++ y ∷ newer →
         walk ≡ y ∷ newer ++ y ∷ [] →
@@ -146,13 +148,13 @@ pub ends : (graph : List (List ℕ)) (root : ℕ) (marks : List Mark) (order : L
 ends graph root marks order s = record {
   finishes = s.ordered;
   reached = λ x. (
-    (λ m. s.reached_done x (Contains-reversed order x m)),
-    (λ r. Contains-reverse order x
+    (λ m. s.reached_done x (Contains-reverse x order m)),
+    (λ r. Contains-reversed x order
         (stays (ends_of graph) (reverse order) s.ordered r (elim s.rooted [ inl m ↦ m | inr m ↦ absurd (Contains-none root m) ]))),
   );
   nodes = λ k d lt.
       let x : ℕ = get_or order k d in
-      let done = (s.finished x).0 (Contains-reversed order x (Contains-get_or order k d lt)) in
+      let done = (s.finished x).0 (Contains-reverse x order (Contains-get_or order k d lt)) in
       let within = slice_get_within marks x Done done in
       let long = s.long in
       omega (arith, within, long);

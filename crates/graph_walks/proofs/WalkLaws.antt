@@ -2,8 +2,8 @@
 use Rattle.std.proofs.Common.{◌≡◌, refl, sym, subst, inl, inr}
 use Rattle.std.proofs.lemmas.List.{reverse-append}
 use Rattle.std.specs.Prelude.{Option, None, Some, List, [], ◌∷◌, ◌++◌, reverse, Contains}
+use Rattle.lists.proofs.Members.{Contains-cases, Contains-here, Contains-none, Contains-there}
 use Rattle.graph_walks.specs.Walks.{Reaches, itself, along, IsWalkFrom, IsCycle, HasCycle, Searches, SearchesEach, closes, enters, no_more, finds, passes, IsFirstCycle, IsFinishOrder}
-use Rattle.graph_walks.proofs.Members.{Contains-here, Contains-there, Contains-cases, Contains-none}
 
 module _ {X : Type 0} (edges : X → List X) where
   each-none : (path xs : List X) → ((y : X) → Contains xs y → Searches edges path y None) → SearchesEach edges path xs None

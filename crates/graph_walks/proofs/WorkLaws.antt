@@ -1,12 +1,12 @@
 -- The work that is left falls with each turn of the search.
 use Rattle.std.proofs.Common.{◌≡◌, ◌<◌, ◌+◌, ◌-◌, refl, sym, ◌∙◌, ap, arith, set, slice_get}
 use Rattle.std.specs.Prelude.{ℕ, zero, suc, Some, List, [], ◌∷◌, ◌++◌, length, reverse}
+use Rattle.lists.proofs.Members.{reverse-push}
 use Rattle.graph_walks.specs.declared.depth_first.Frame.{Frame}
 use Rattle.graph_walks.specs.declared.depth_first.Mark.{Mark}
 use Rattle.graph_walks.specs.declared.depth_first.Mark.TheVariants.{New, OnPath, Done}
 use Rattle.graph_walks.specs.Graph.{ends_of}
 use Rattle.graph_walks.specs.Search.{new_work, frames_work}
-use Rattle.graph_walks.proofs.Members.{reverse-push}
 
 -- a node is entered
 pub work_less : (marks : List Mark) (graph : List (List ℕ)) (y : ℕ) → slice_get marks y ≡ Some New → length marks ≡ length graph →

@@ -1,12 +1,13 @@
 -- What a search finds, and what it holds while it goes on.
 use Rattle.std.specs.Prelude.{◌≡◌, ◌⊎◌, ◌↔◌, ℕ, ◌+◌, ◌-◌, ◌<◌, ◌≤◌, Bool, true, false, Option, None, Some, List, [], ◌∷◌, ◌++◌, length, reverse, map, take, drop, All, Contains, slice_get}
+use Rattle.lists.specs.Distinct.{IsDistinct}
 use Rattle.graph_walks.specs.declared.depth_first.Frame.{Frame}
 use Rattle.graph_walks.specs.declared.depth_first.Mark.{Mark}
 use Rattle.graph_walks.specs.declared.depth_first.Mark.TheVariants.{New, OnPath, Done}
 use Rattle.graph_walks.specs.declared.depth_first.Found.{Found}
 use Rattle.graph_walks.specs.declared.depth_first.Found.TheVariants.{Cycle, Order}
 use Rattle.graph_walks.specs.Graph.{ends_of}
-use Rattle.graph_walks.specs.Walks.{Reaches, IsDistinct, Searches, SearchesEach, IsFirstCycle, IsFinishOrder}
+use Rattle.graph_walks.specs.Walks.{Reaches, Searches, SearchesEach, IsFirstCycle, IsFinishOrder}
 
 -- the first cycle that the root reaches
 pub record IsCycleFrom (graph : List (List ℕ)) (root : ℕ) (walk : List ℕ) : Type 0 where

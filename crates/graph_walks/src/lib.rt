@@ -9,6 +9,3 @@ mod ranking;
 pub use depth_first::{Found, has_cycle, search};
 pub use graph::Graph;
 pub use ranking::ranks;
-
-#[cfg(test)]
-mod tests;

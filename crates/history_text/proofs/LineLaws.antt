@@ -100,6 +100,12 @@ history_parts h =
     let four = flat_map-append line_text removed end in
     ap (λ z. first_part ++ z) (one ∙ ap (λ z. origins_part h ++ z) (two ∙ ap (λ z. modified_part h ++ z) (three ∙ ap (λ z. generated_part h ++ z) four)))
 
+pub some_text : (h : HistoryFile) → 0 < length (text_of h)
+some_text h =
+    let others : List ℕ = origins_part h ++ (modified_part h ++ (generated_part h ++ (removed_part h ++ last_part))) in
+    let first : 0 < length first_part = omega arith in
+    omega (arith, first, ap length (history_parts h), length-append first_part others)
+
 after_two : (a b r : List ℕ) → a ++ (b ++ r) ≡ (a ++ b) ++ r
 after_two a b r = sym (append_assoc a b r)
 

@@ -5,16 +5,17 @@ use Rattle.std.proofs.lemmas.Bool.{cases_lt}
 use Rattle.std.proofs.lemmas.List.{append-nil, length-append, take-append-le, take_more, take_all, map-append}
 use Rattle.std.proofs.lemmas.Grind.{flat_map-append}
 use Rattle.std.specs.Prelude.{IfErr, IsErrAnd}
-use Rattle.brep_desk.specs.Shown.{Use, writing, Shown, Tells, ChangesOnly}
+use Rattle.brep_desk.specs.Shown.{ChannelState, writing, Shown, Tells, ChangesOnly}
 use Rattle.brep_desk.specs.Strays.{KeepsStrays}
-use Rattle.brep_desk.specs.Whole.{Appended}
-use Rattle.brep_desk.specs.declared.whole.WriteStop.{WriteStop}
+use Rattle.brep_desk.specs.WritingCalls.{NoFewerWritingCalls, RoseWritingCalls}
+use Rattle.brep_desk.specs.Transfers.{Appended}
+use Rattle.brep_desk.specs.declared.transfers.WriteStop.{WriteStop}
 use Rattle.brep_tokens.specs.Written.{line_text, lines_text}
 use Rattle.history_text.proofs.LineLaws.{more, rest}
 use Rattle.history_text.specs.Sending.{Waiting, counted, KeepsStraysIfOpen, Sent, Stopped, Sends}
 
-same_channel : (a b : Shown) (c : ℕ) (u : Use) → b.opened ≡ a.opened → a.opened c ≡ u → b.opened c ≡ u
-same_channel a b c u same is = ap (λ (f : ℕ → Use). f c) same ∙ is
+same_channel : (a b : Shown) (c : ℕ) (u : ChannelState) → b.opened ≡ a.opened → a.opened c ≡ u → b.opened c ≡ u
+same_channel a b c u same is = ap (λ (f : ℕ → ChannelState). f c) same ∙ is
 
 take_past : (x y : List ℕ) (n : ℕ) → take (length x + n) (x ++ y) ≡ x ++ take n y
 take_past [] y n = let e : 0 + n ≡ n = omega arith in ap (λ k. take k y) e
@@ -63,6 +64,12 @@ Appended-more t a b c x y n p = record {
 strays_then : (t : Tells) (a b d : Shown) (c : ℕ) → b.opened ≡ a.opened → KeepsStraysIfOpen t a b c → KeepsStraysIfOpen t b d c → KeepsStraysIfOpen t a d c
 strays_then t a b d c same p q name is told = q name (same_channel a b c (writing name) same is) told ∙ p name is told
 
+rose_later : (t : Tells) (a b d : Shown) → RoseWritingCalls t a b → NoFewerWritingCalls t b d → RoseWritingCalls t a d
+rose_later t a b d rose later told = omega (arith, rose told, later told)
+
+pub later_rose : (t : Tells) (a b d : Shown) → NoFewerWritingCalls t a b → RoseWritingCalls t b d → RoseWritingCalls t a d
+later_rose t a b d later rose told = omega (arith, later told, rose told)
+
 joined_then : (p x gone q y more r : List ℕ) → p ++ x ≡ gone ++ q → q ++ y ≡ more ++ r → p ++ (x ++ y) ≡ (gone ++ more) ++ r
 joined_then p x gone q y more r e f =
     sym (append_assoc p x y) ∙ ap (λ z. z ++ y) e ∙ append_assoc gone q y ∙ ap (λ z. gone ++ z) f ∙ sym (append_assoc gone more r)
@@ -74,6 +81,12 @@ Sent-then t a b d c p q r x y one two = record {
   joined = joined_then p.bytes x one.gone q.bytes y two.gone r.bytes one.joined two.joined;
   taken = omega (arith, one.taken, two.taken, length-append one.gone two.gone);
   strays = strays_then t a b d c one.appended.opened one.strays two.strays;
+  writing_calls = λ told. omega (arith, one.writing_calls told, two.writing_calls told);
+  calls = λ some.
+      elim (cases_lt 0 (length one.gone)) [
+        | inl lt ↦ rose_later t a b d (one.calls lt) two.writing_calls
+        | inr le ↦ later_rose t a b d one.writing_calls (two.calls (omega (arith, le, some, length-append one.gone two.gone)))
+      ];
 }
 
 pub Stopped-then : (t : Tells) (a b d : Shown) (c : ℕ) (p q : Waiting) (x y : List ℕ) (n : ℕ) → Sent t a b c p q x → Stopped t b d c q y n → Stopped t a d c p (x ++ y) n
@@ -86,6 +99,7 @@ Stopped-then t a b d c p q x y n one two =
       appended = subst (λ (z : List ℕ). Appended t a d c z (length one.gone + two.count)) whole (Appended-join t a b d c one.gone (q.bytes ++ y) two.count one.appended two.appended);
       told = omega (arith, one.taken, two.told);
       strays = strays_then t a b d c one.appended.opened one.strays two.strays;
+      calls = later_rose t a b d one.writing_calls two.calls;
     }
 
 pub Stopped-more : (t : Tells) (a b : Shown) (c : ℕ) (p : Waiting) (x y : List ℕ) (n : ℕ) → Stopped t a b c p x n → Stopped t a b c p (x ++ y) n
@@ -97,6 +111,7 @@ Stopped-more t a b c p x y n s =
       appended = subst (λ (z : List ℕ). Appended t a b c z s.count) whole (Appended-more t a b c (p.bytes ++ x) y s.count s.appended);
       told = s.told;
       strays = s.strays;
+      calls = s.calls;
     }
 
 -- a stop in the middle one of three texts
@@ -124,21 +139,25 @@ Sent-waiting t s c p q x range waits same = record {
   joined = waits;
   taken = omega arith;
   strays = λ name is told. refl;
+  writing_calls = λ _. omega arith;
+  calls = λ some. absurd (omega (arith, some));
 }
 
 -- all that waited is gone
-pub Sent-gone : (t : Tells) (a b : Shown) (c : ℕ) (p q : Waiting) (x : List ℕ) → Appended t a b c x (length x) → x ≡ p.bytes → q.bytes ≡ [] → q.taken ≡ counted (p.taken + length x) → KeepsStraysIfOpen t a b c → Sent t a b c p q []
-Sent-gone t a b c p q x gone is none taken strays = record {
+pub Sent-gone : (t : Tells) (a b : Shown) (c : ℕ) (p q : Waiting) (x : List ℕ) → Appended t a b c x (length x) → x ≡ p.bytes → q.bytes ≡ [] → q.taken ≡ counted (p.taken + length x) → KeepsStraysIfOpen t a b c → NoFewerWritingCalls t a b → (0 < length x → RoseWritingCalls t a b) → Sent t a b c p q []
+Sent-gone t a b c p q x gone is none taken strays later calls = record {
   gone = x;
   appended = gone;
   joined = append-nil p.bytes ∙ sym is ∙ sym (append-nil x) ∙ ap (λ z. x ++ z) (sym none);
   taken = taken;
   strays = strays;
+  writing_calls = later;
+  calls = calls;
 }
 
 -- a part of what waited is gone
-pub Stopped-gone : (t : Tells) (a b : Shown) (c : ℕ) (p : Waiting) (x : List ℕ) (n total : ℕ) → Appended t a b c x n → x ≡ p.bytes → n < length x → total ≡ counted (p.taken + n) → KeepsStraysIfOpen t a b c → Stopped t a b c p [] total
-Stopped-gone t a b c p x n total part is early told strays =
+pub Stopped-gone : (t : Tells) (a b : Shown) (c : ℕ) (p : Waiting) (x : List ℕ) (n total : ℕ) → Appended t a b c x n → x ≡ p.bytes → n < length x → total ≡ counted (p.taken + n) → KeepsStraysIfOpen t a b c → (0 < length x → RoseWritingCalls t a b) → Stopped t a b c p [] total
+Stopped-gone t a b c p x n total part is early told strays calls =
     let whole : x ≡ p.bytes ++ [] = is ∙ sym (append-nil p.bytes) in
     record {
       count = n;
@@ -146,6 +165,7 @@ Stopped-gone t a b c p x n total part is early told strays =
       appended = subst (λ (z : List ℕ). Appended t a b c z n) whole part;
       told = told;
       strays = strays;
+      calls = calls (omega (arith, early));
     }
 
 -- an error that is handed on
@@ -162,6 +182,7 @@ Stopped-from t a b c p q x n e f s =
       appended = subst (λ (z : List ℕ). Appended t a b c z s.count) whole s.appended;
       told = s.told ∙ ap (λ k. counted (k + s.count)) f;
       strays = s.strays;
+      calls = s.calls;
     }
 
 -- a stop in the first of two texts
@@ -216,3 +237,9 @@ IfErr-on (Err z) e P is h = subst P (sym is) h
 
 pub Stopped-as : (t : Tells) (a b : Shown) (c : ℕ) (p : Waiting) (x text : List ℕ) (n : ℕ) → x ≡ text → Stopped t a b c p x n → Stopped t a b c p text n
 Stopped-as t a b c p x text n is s = subst (λ (w : List ℕ). Stopped t a b c p w n) is s
+
+-- of a text that was sent whole, and has bytes, a call of writing is counted
+pub Sent-calls : (t : Tells) (a b : Shown) (c : ℕ) (p r : Waiting) (x : List ℕ) → p.bytes ≡ [] → r.bytes ≡ [] → 0 < length x → Sent t a b c p r x → RoseWritingCalls t a b
+Sent-calls t a b c p r x first last some s =
+    let same : s.gone ≡ x = sym (append-nil s.gone) ∙ ap (λ z. s.gone ++ z) (sym last) ∙ sym s.joined ∙ ap (λ z. z ++ x) first in
+    s.calls (omega (arith, some, ap length same))

@@ -2,8 +2,9 @@
 use Rattle.std.specs.Prelude.{◌≡◌, ℕ, ◌+◌, ◌-◌, ◌^◌, ◌<◌, min, List, ◌++◌, length, Result, Ok, Err}
 use Rattle.brep_desk.specs.Shown.{writing, Shown, Tells}
 use Rattle.brep_desk.specs.Strays.{KeepsStrays}
-use Rattle.brep_desk.specs.Whole.{Appended}
-use Rattle.brep_desk.specs.declared.whole.WriteStop.{WriteStop}
+use Rattle.brep_desk.specs.WritingCalls.{NoFewerWritingCalls, RoseWritingCalls}
+use Rattle.brep_desk.specs.Transfers.{Appended}
+use Rattle.brep_desk.specs.declared.transfers.WriteStop.{WriteStop}
 
 -- what waits, and how many bytes the desk took before it
 pub record Waiting : Type 0 where
@@ -24,6 +25,8 @@ pub record Sent (t : Tells) (old new : Shown) (c : ℕ) (before after : Waiting)
   pub joined : before.bytes ++ text ≡ gone ++ after.bytes
   pub taken : after.taken ≡ counted (before.taken + length gone)
   pub strays : KeepsStraysIfOpen t old new c
+  pub writing_calls : NoFewerWritingCalls t old new
+  pub calls : 0 < length gone → RoseWritingCalls t old new
 
 -- The desk took so many bytes, up to the last number, and failed before the text's end.
 pub record Stopped (t : Tells) (old new : Shown) (c : ℕ) (before : Waiting) (text : List ℕ) (taken : ℕ) : Type 0 where
@@ -32,6 +35,7 @@ pub record Stopped (t : Tells) (old new : Shown) (c : ℕ) (before : Waiting) (t
   pub appended : Appended t old new c (before.bytes ++ text) count
   pub told : taken ≡ counted (before.taken + count)
   pub strays : KeepsStraysIfOpen t old new c
+  pub calls : RoseWritingCalls t old new
 
 abbrev pub Sends : Tells → Shown → Shown → ℕ → Waiting → Waiting → List ℕ → Result Unit WriteStop → Type 0
 Sends t old new c before after text (Ok _) = Sent t old new c before after text

@@ -5,8 +5,6 @@ mod file;
 mod lines;
 mod pairs;
 mod pending;
-#[cfg(test)]
-mod tests;
 mod text;
 
 pub use file::HistoryFile;

@@ -50,6 +50,7 @@ impl Pending {
     pub(crate) fn flush<D: Desk>(&mut self, desk: &mut D, c: Chan) -> Result<(), WriteStop>
         ensures later { D.faults desk.old ≤ D.faults desk.new }
         ensures cause { OnErr result (Rose (D.faults desk.old) (D.faults desk.new)) }
+        ensures no_fault { OnOk result (D.faults desk.new ≡ D.faults desk.old) }
         ensures sends { Sends D.tells (D.shows desk.old) (D.shows desk.new) c.number self.old self.new [] result }
         ensures empty { OnOk result (self.new.bytes ≡ []) }
     {
@@ -75,6 +76,7 @@ impl Pending {
         requires { length piece.now ≤ 96 }
         ensures later { D.faults desk.old ≤ D.faults desk.new }
         ensures cause { OnErr result (Rose (D.faults desk.old) (D.faults desk.new)) }
+        ensures no_fault { OnOk result (D.faults desk.new ≡ D.faults desk.old) }
         ensures sends { Sends D.tells (D.shows desk.old) (D.shows desk.new) c.number self.old self.new piece.now result }
     {
         if self.bytes.try_extend_from_slice(piece).is_ok() {

@@ -2,7 +2,8 @@
 ghost use Rattle.brep_desk.specs.Causes.{Rose};
 ghost use Rattle.brep_desk.specs.Shown.{writing};
 ghost use Rattle.brep_desk.specs.Strays.{KeepsStrays};
-ghost use Rattle.brep_desk.specs.Whole.{Appended};
+ghost use Rattle.brep_desk.specs.WritingCalls.{RoseWritingCalls};
+ghost use Rattle.brep_desk.specs.Transfers.{Appended};
 ghost use Rattle.brep_tokens.specs.Written.{lines_text};
 ghost use Rattle.history_text.specs.HistoryText.{number_words, origin_lines, pair_words, section, text_of};
 ghost use Rattle.history_text.specs.Sending.{Sends, counted};
@@ -24,6 +25,7 @@ fn put_origins<D: Desk>(
 ) -> Result<(), WriteStop>
     ensures later { D.faults desk.old ≤ D.faults desk.new }
     ensures cause { OnErr result (Rose (D.faults desk.old) (D.faults desk.new)) }
+    ensures no_fault { OnOk result (D.faults desk.new ≡ D.faults desk.old) }
     ensures sends { Sends D.tells (D.shows desk.old) (D.shows desk.new) c.number pending.old pending.new (lines_text (section (codes "records") (origin_lines origins.now))) result }
 {
     pending.put(desk, c, count_line(b"records", origins.len()).as_slice())?;
@@ -46,6 +48,7 @@ fn put_pairs<D: Desk>(
     requires { length word.now ≤ 9 }
     ensures later { D.faults desk.old ≤ D.faults desk.new }
     ensures cause { OnErr result (Rose (D.faults desk.old) (D.faults desk.new)) }
+    ensures no_fault { OnOk result (D.faults desk.new ≡ D.faults desk.old) }
     ensures sends { Sends D.tells (D.shows desk.old) (D.shows desk.new) c.number pending.old pending.new (lines_text (section word.now (map pair_words pairs.now))) result }
 {
     pending.put(desk, c, count_line(word, pairs.len()).as_slice())?;
@@ -66,6 +69,7 @@ fn put_removed<D: Desk>(
 ) -> Result<(), WriteStop>
     ensures later { D.faults desk.old ≤ D.faults desk.new }
     ensures cause { OnErr result (Rose (D.faults desk.old) (D.faults desk.new)) }
+    ensures no_fault { OnOk result (D.faults desk.new ≡ D.faults desk.old) }
     ensures sends { Sends D.tells (D.shows desk.old) (D.shows desk.new) c.number pending.old pending.new (lines_text (section (codes "removed") (map number_words removed.now))) result }
 {
     pending.put(desk, c, count_line(b"removed", removed.len()).as_slice())?;
@@ -86,6 +90,7 @@ fn put_history<D: Desk>(
 ) -> Result<(), WriteStop>
     ensures later { D.faults desk.old ≤ D.faults desk.new }
     ensures cause { OnErr result (Rose (D.faults desk.old) (D.faults desk.new)) }
+    ensures no_fault { OnOk result (D.faults desk.new ≡ D.faults desk.old) }
     ensures sends { Sends D.tells (D.shows desk.old) (D.shows desk.new) c.number pending.old pending.new (text_of h.now) result }
 {
     pending.put(desk, c, b"BREP-HISTORY 1\n")?;
@@ -101,10 +106,12 @@ fn put_history<D: Desk>(
 pub fn emit<D: Desk>(h: &HistoryFile, desk: &mut D, c: Chan) -> Result<u64, WriteStop>
     ensures later { D.faults desk.old ≤ D.faults desk.new }
     ensures cause { OnErr result (Rose (D.faults desk.old) (D.faults desk.new)) }
+    ensures no_fault { OnOk result (D.faults desk.new ≡ D.faults desk.old) }
     ensures whole { OnOk result (Appended D.tells (D.shows desk.old) (D.shows desk.new) c.number (text_of h.now) (length (text_of h.now))) }
     ensures size { IfOk result (λ n. n ≡ counted (length (text_of h.now))) }
     ensures part { IfErr result (λ e. (count : ℕ) × (count < length (text_of h.now)) × (e.taken ≡ counted count) × Appended D.tells (D.shows desk.old) (D.shows desk.new) c.number (text_of h.now) count) }
     ensures strays { (name : List ℕ) → (D.shows desk.old).opened c.number ≡ writing name → KeepsStrays D.tells (D.shows desk.old) (D.shows desk.new) }
+    ensures writing_calls { RoseWritingCalls D.tells (D.shows desk.old) (D.shows desk.new) }
 {
     let mut pending = Pending::new();
     put_history(&mut pending, desk, c, h)?;

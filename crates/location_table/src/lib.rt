@@ -9,8 +9,6 @@ mod reader;
 mod section;
 mod section_reader;
 mod spell;
-#[cfg(test)]
-mod tests;
 
 pub use entry::{Factor, Factors, LocationEntry};
 pub use reader::LocationReader;

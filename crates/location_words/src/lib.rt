@@ -19,6 +19,3 @@ pub use powers::power;
 pub use products::{mul, product};
 pub use table::{WordId, Words};
 pub use word::{Word, inverse};
-
-#[cfg(test)]
-mod tests;

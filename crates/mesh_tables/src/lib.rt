@@ -2,18 +2,16 @@
 #![tactic(auto)]
 
 mod entries;
+mod entry_lists;
 pub mod laws;
-mod lists;
 mod mesh_reader;
 mod polygon_on_reader;
 mod polygon_reader;
 mod sections;
 mod spell;
-#[cfg(test)]
-mod tests;
 
 pub use entries::{Mesh, Polygon3, PolygonOnMesh};
-pub use lists::{Meshes, Polygons, PolygonsOn};
+pub use entry_lists::{Meshes, Polygons, PolygonsOn};
 pub use mesh_reader::MeshReader;
 pub use polygon_on_reader::PolygonOnMeshReader;
 pub use polygon_reader::Polygon3Reader;

@@ -11,6 +11,3 @@ pub mod laws;
 pub use kind::{Kind, below, kind_name, kind_of_name};
 pub use rule::Rule;
 pub use turn::{Turn, compose, of_sign, reverse, sign};
-
-#[cfg(test)]
-mod tests;

@@ -1,5 +1,5 @@
 //! The commands of a script.
-use crate::lists::{Names, SignedNames};
+use crate::name_lists::{Names, SignedNames};
 use orientation::Turn;
 
 /// A record that is named, perhaps with the turn that is asked for, and the number of the place where alone it is meant.

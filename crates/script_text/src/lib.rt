@@ -4,18 +4,16 @@
 mod command;
 /// The laws of script lines, as functions whose contracts state them.
 pub mod laws;
+mod line_words;
 mod lines;
-mod lists;
+mod name_lists;
 mod parsing;
 mod phrase;
 mod reading;
-#[cfg(test)]
-mod tests;
-mod words;
 mod writing;
 
 pub use command::{Command, LineFault, Sel, SignedName, Tgt};
 pub use lines::{Lines, line_count, lines_of};
-pub use lists::{Names, SignedNames};
+pub use name_lists::{Names, SignedNames};
 pub use parsing::parse;
 pub use writing::spell;

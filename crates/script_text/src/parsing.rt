@@ -6,10 +6,10 @@ ghost use Rattle.script_text.specs.Meaning.{Gives, OrNoMemory, command_of_line, 
 ghost use Rattle.script_text.specs.declared.command.Command.TheVariants as commands;
 
 use crate::command::{Command, LineFault, Sel, SignedName, Tgt};
-use crate::lists::{Names, SignedNames};
+use crate::line_words::says_nothing;
+use crate::name_lists::{Names, SignedNames};
 use crate::phrase::{Mention, Phrase};
 use crate::reading::phrase;
-use crate::words::says_nothing;
 use orientation::Turn;
 use std::alloc::Global;
 

@@ -6,8 +6,8 @@ ghost use Rattle.std.specs.Option.{option_and_then};
 ghost use Rattle.script_text.specs.Reading.{after_word, alone, are_distinct, are_named, are_sewn, is_bare, may_be_side, mention_in, mention_of, mentions_from, merge_of, number_after, number_in, phrase_of, removal_in, replacement_in, sewing_of, target_in, verb_of};
 ghost use Rattle.script_text.specs.Words.{is_word, words_of};
 
+use crate::line_words::first_word;
 use crate::phrase::{Mention, Mentions, Phrase};
-use crate::words::first_word;
 use brep_tokens::number;
 use orientation::{Turn, of_sign};
 use std::alloc::{AllocError, Global};

@@ -6,7 +6,7 @@ ghost use Rattle.script_text.specs.Writing.{after_spaces, bare_mention, line_of_
 ghost use Rattle.script_text.specs.declared.command.Command.TheVariants as commands;
 
 use crate::command::{Command, Sel, SignedName, Tgt};
-use crate::lists::{Names, SignedNames};
+use crate::name_lists::{Names, SignedNames};
 use itoa::Buffer;
 use orientation::{Turn, sign};
 use std::alloc::{AllocError, Global};

@@ -3,6 +3,7 @@ use Rattle.std.proofs.Common.{◌≡◌, ◌<◌, ◌⊎◌, ◌≢◌, ℕ, Lis
 use Rattle.std.specs.Option.{option_map_or}
 use Rattle.std.proofs.lemmas.List.{length-append, take-append-drop}
 use Rattle.std.proofs.lemmas.Option.{slice_get_within}
+use Rattle.lists.proofs.Places.{slice_get-last, slice_get-left, slice_get-push, taken-row}
 use Rattle.orientation.specs.declared.kind.Kind.{Kind}
 use Rattle.orientation.specs.declared.kind.Kind.TheVariants.{Co}
 use Rattle.expansion_laws.specs.Trees.{tree_of}
@@ -12,7 +13,6 @@ use Rattle.shape_pool.specs.Rows.{Row, a_row, kind_at, origin_at, uses_at, use_b
 use Rattle.shape_pool.specs.Calls.{IsOf, IsLoaded, IsHeldAs, IsNode, IsHandedIn, IsTreeOver, Keeps, KeepsLoaded, IsLoadedToo, KeepsPlaces}
 use Rattle.shape_pool.specs.Laws.{IsSound}
 use Rattle.shape_pool.specs.Held.{IsRows, HaveKind}
-use Rattle.shape_pool.proofs.Lists.{slice_get-left, slice_get-last, slice_get-push, taken-row}
 use Rattle.shape_pool.proofs.RowLaws.{entry, kind-entry, origin-entry, uses-entry, tree-row, tree-more, trees-alike, uses-same}
 use Rattle.shape_pool.proofs.DepthLaws.{same-depths, depth-over-uses}
 use Rattle.shape_pool.proofs.IdLaws.{ids-tell-trees, ids-tell-trees-by, tables-alike}

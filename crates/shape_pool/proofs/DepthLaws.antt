@@ -3,12 +3,13 @@ use Rattle.std.proofs.Common.{◌≡◌, ◌≤◌, ◌<◌, ℕ, zero, suc, Lis
 use Rattle.std.specs.Prelude.{max, nat_lt}
 use Rattle.std.proofs.lemmas.Bool.{ltb-true, ltb-false}
 use Rattle.std.proofs.lemmas.List.Elements.{All-head, All-tail}
+use Rattle.lists.proofs.Places.{at_place}
+use Rattle.lists.proofs.Cases.{by_test}
 use Rattle.location_words.specs.declared.pair.Pair.{Pair}
 use Rattle.expansion_laws.specs.Trees.{Tree, uses_of}
 use Rattle.expansion_laws.specs.Measures.{depth, uses_depth}
 use Rattle.shape_pool.specs.declared.node.UseOf.{UseOf}
 use Rattle.shape_pool.specs.Rows.{Row, use_by, tree_at, greatest, depth_at, depth_over, uses_at}
-use Rattle.shape_pool.proofs.Lists.{by_test, at_place}
 use Rattle.shape_pool.proofs.RowLaws.{entry, tree-row, tree-past, AllBefore}
 
 -- the depth over uses is the greatest of their trees' depths

@@ -2,6 +2,7 @@
 use Rattle.std.proofs.Common.{◌≡◌, ◌<◌, refl, ℕ, zero, suc, List, ap, sym, ◌∙◌, [], ◌∷◌, map, length, All, slice_get, Some, arith}
 use Rattle.std.specs.Prelude.{unwrap_or}
 use Rattle.std.proofs.lemmas.List.Elements.{All-head, All-tail}
+use Rattle.lists.proofs.Places.{at_place}
 use Rattle.location_words.specs.declared.pair.Pair.{Pair}
 use Rattle.expansion_laws.specs.Trees.{Tree, Use, list_of, uses_of, origin, uses}
 use Rattle.shape_pool.specs.declared.node.UseOf.{UseOf}
@@ -9,7 +10,6 @@ use Rattle.location_words.specs.Tables.{IsTable}
 use Rattle.shape_pool.specs.Rows.{Row, use_by, tree_at, uses_at, HasPlaces}
 use Rattle.shape_pool.specs.Laws.{IdsTellTrees, IdsTellTreesBy, TellsBelow, word_in}
 use Rattle.shape_pool.specs.Held.{IsRows}
-use Rattle.shape_pool.proofs.Lists.{at_place}
 use Rattle.shape_pool.proofs.RowLaws.{entry, tree-row, trees-alike}
 
 pub list_of-uses_of : (us : List Use) → list_of (uses_of us) ≡ us

@@ -6,9 +6,12 @@ use Rattle.std.specs.List.{list_any, position_or_len}
 use Rattle.std.proofs.lemmas.Bool.{ltb-true, ltb-false}
 use Rattle.std.proofs.lemmas.List.{length-map, map-append}
 use Rattle.std.proofs.lemmas.Option.{slice_get-map, slice_get_within, slice_get-get_or}
-use Rattle.std.proofs.lemmas.List.Elements.{All-head, All-tail}
+use Rattle.std.proofs.lemmas.List.Elements.{All-head, All-tail, All-cons}
 use Rattle.std.proofs.lemmas.List.Folds.{list_any_at}
 use Rattle.std.proofs.lemmas.List.Quantifiers.{position-Some}
+use Rattle.lists.proofs.Tests.{position-first, position-past}
+use Rattle.lists.proofs.Places.{at_place, length-take, map-take, row-taken, slice_get-kept, slice_get-last, slice_get-left, slice_get-push, taken-row}
+use Rattle.lists.proofs.Cases.{by_test}
 use Rattle.indexmap.specs.IndexSet.{insert_key}
 use Rattle.orientation.specs.declared.kind.Kind.{Kind}
 use Rattle.orientation.specs.declared.kind.Kind.TheVariants.{Co}
@@ -21,7 +24,6 @@ use Rattle.shape_pool.specs.Nodes.{by_number, node_uses, node_id, used_node}
 use Rattle.shape_pool.specs.Rows.{Row, a_row, tree_at, greatest, depth_at, depth_over, AllHeld, AllBelow, most_nodes, most_depth}
 use Rattle.shape_pool.specs.Calls.{IsHeldAs, IsHandedIn}
 use Rattle.shape_pool.specs.Held.{row_of, stored_depth, HaveKind, IsRows, IsShared, IsIndex, IsOver, IsNext, HandsIn, rows_of, held_eq}
-use Rattle.shape_pool.proofs.Lists.{by_test, slice_get-left, slice_get-last, slice_get-push, slice_get-kept, at_place, All-from, taken-row, row-taken, map-take, length-take, position-first, position-past}
 use Rattle.shape_pool.proofs.RowLaws.{origin-entry, uses-entry, tree-kept, tree-last, tree-past, tree-taken, kind-taken}
 use Rattle.shape_pool.proofs.DepthLaws.{depth-uses, greatest-same}
 use Rattle.shape_pool.proofs.HeldLaws.{held_eq-tells}
@@ -192,7 +194,7 @@ shared-held : (held : List Held) (us : List NodeUse) → All (IsShared held) us 
 shared-held held [] s = λ i d lt. absurd (omega arith)
 shared-held held (u ∷ us) s =
     let h = All-head (IsShared held) u us s in
-    All-from (λ (v : UseOf). v.id.0 < length held) (by_number u) (map by_number us) (slice_get_within held (node_id (used_node u)) h.0 h.1) (shared-held held us (All-tail (IsShared held) u us s))
+    All-cons (λ (v : UseOf). v.id.0 < length held) (by_number u) (map by_number us) (slice_get_within held (node_id (used_node u)) h.0 h.1) (shared-held held us (All-tail (IsShared held) u us s))
 
 -- the row of a node made over uses
 row-over : (held : List Held) (k : Kind) (o : ℕ) (us : List UseOf) (h : Held) → IsOver held k o us h → row_of h ≡ a_row k o us

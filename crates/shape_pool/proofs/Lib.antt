@@ -1,4 +1,3 @@
-pub mod Lists
 pub mod RowLaws
 pub mod DepthLaws
 pub mod IdLaws

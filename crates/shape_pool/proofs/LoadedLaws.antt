@@ -3,10 +3,11 @@ use Rattle.std.proofs.Common.{◌≡◌, ◌≤◌, ◌<◌, ◌⊎◌, ℕ, zer
 use Rattle.std.specs.Prelude.{nat_lt}
 use Rattle.std.proofs.lemmas.Bool.{ltb-true, ltb-false}
 use Rattle.std.proofs.lemmas.Option.{slice_get_within}
+use Rattle.lists.proofs.Places.{row-taken, same_entry, slice_get-kept, slice_get-last, slice_get-push, taken-row}
+use Rattle.lists.proofs.Cases.{by_test}
 use Rattle.shape_pool.specs.declared.node.NodeId.{NodeId}
 use Rattle.shape_pool.specs.Rows.{Row}
 use Rattle.shape_pool.specs.Calls.{IsOf, IsLoaded, IsLoadedAs, KeepsLoaded, KeepsLoadedBelow, IsLoadedToo}
-use Rattle.shape_pool.proofs.Lists.{by_test, same_entry, slice_get-push, slice_get-kept, slice_get-last, taken-row, row-taken}
 use Rattle.shape_pool.proofs.RowLaws.{entry, origin-entry}
 
 -- ---- the first number of an origin

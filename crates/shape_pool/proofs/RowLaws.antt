@@ -9,11 +9,11 @@ use Rattle.std.proofs.lemmas.List.{length-append, append-nil, append_assoc, take
 use Rattle.std.proofs.lemmas.List.Sums.{fold-append}
 use Rattle.std.proofs.lemmas.List.Elements.{All-head, All-tail}
 use Rattle.std.proofs.lemmas.Option.{slice_get_within}
+use Rattle.lists.proofs.Places.{length-take, slice_get-kept, slice_get-last, slice_get-left, slice_get-push}
 use Rattle.location_words.specs.declared.pair.Pair.{Pair}
 use Rattle.expansion_laws.specs.Trees.{Tree, a_single, tree_of}
 use Rattle.shape_pool.specs.declared.node.UseOf.{UseOf}
 use Rattle.shape_pool.specs.Rows.{AllPlaced, HasPlaces, Row, a_row, kind_at, origin_at, uses_at, use_by, tree_in, tree_over, trees_of, tree_at}
-use Rattle.shape_pool.proofs.Lists.{slice_get-left, slice_get-last, slice_get-push, slice_get-kept, length-take}
 
 -- the row of a held number, and what a row says of its number
 pub entry : (rows : List Row) (i : ℕ) → i < length rows → slice_get rows i ≡ Some (a_row (kind_at rows i) (origin_at rows i) (uses_at rows i))

@@ -1,6 +1,7 @@
 -- The numbers that are reached from a root are those of its subtrees.
 use Rattle.std.proofs.Common.{◌≡◌, ◌≤◌, ◌<◌, ◌⊎◌, ℕ, zero, suc, List, map, length, arith, sym, ◌∙◌, ap, subst, Contains, inl, inr}
-use Rattle.std.proofs.lemmas.List.Elements.{Contains-append_left, Contains-append_right, Contains-append_cases}
+use Rattle.std.proofs.lemmas.List.Elements.{Contains-append_left, Contains-append_right, Contains-append_cases, All-contains}
+use Rattle.lists.proofs.Members.{Contains-cases, Contains-here, Contains-map, Contains-map_cases, Contains-none, Contains-there}
 use Rattle.location_words.specs.declared.pair.Pair.{Pair}
 use Rattle.graph_walks.specs.Walks.{Reaches, itself, along}
 use Rattle.expansion_laws.specs.Trees.{Tree, Use, Uses, node, no_use, a_use, a_single, list_of, uses}
@@ -8,7 +9,6 @@ use Rattle.expansion_laws.specs.Measures.{subtrees, subtrees_below}
 use Rattle.shape_pool.specs.declared.node.UseOf.{UseOf}
 use Rattle.shape_pool.specs.Rows.{Row, use_by, tree_at, uses_at}
 use Rattle.shape_pool.specs.Laws.{ids_used, IdsOfSubtrees}
-use Rattle.shape_pool.proofs.Lists.{All-at, Contains-here, Contains-there, Contains-cases, Contains-none, Contains-map, Contains-map_cases}
 use Rattle.shape_pool.proofs.RowLaws.{entry, tree-row, AllBefore}
 use Rattle.shape_pool.proofs.IdLaws.{list_of-uses_of}
 
@@ -43,7 +43,7 @@ subtrees-cases (node k us) y h = elim (Contains-cases (node k us) y (subtrees_be
 -- ---- numbers
 module _ (rows : List Row) (before : AllBefore rows) where
   use-before : (i : ℕ) → i < length rows → (u : UseOf) → Contains (uses_at rows i) u → u.id.0 < i
-  use-before i lt u c = All-at (λ (u : UseOf). u.id.0 < i) (uses_at rows i) u (before i _ (entry rows i lt)) c
+  use-before i lt u c = All-contains (λ (u : UseOf). u.id.0 < i) (uses_at rows i) u (before i _ (entry rows i lt)) c
 
   id-before : (i y : ℕ) → i < length rows → Contains (ids_used rows i) y → y < i
   id-before i y lt c =

@@ -13,6 +13,3 @@ pub use fault::PoolFault;
 pub use ids::{IdPairs, Ids};
 pub use node::{Node, NodeId, NodeUse, UseOf};
 pub use pool::Pool;
-
-#[cfg(test)]
-mod tests;

@@ -2,29 +2,30 @@
 use Rattle.std.proofs.Common.{◌≡◌, refl, sym, ap, subst, inl, inr, ◌∙◌}
 use Rattle.std.specs.Prelude.{◌↔◌, List, [], ◌∷◌, ◌++◌, map, filter, Contains}
 use Rattle.std.proofs.lemmas.List.Elements.{Contains-append_left, Contains-append_right, Contains-append_cases}
+use Rattle.lists.proofs.Tests.{Contains-filter, Contains-filter_cases}
+use Rattle.lists.proofs.Members.{Contains-flat_map, Contains-flat_map_cases, Contains-map, Contains-map_cases, Contains-none}
 use Rattle.orientation.specs.declared.kind.Kind.{Kind}
 use Rattle.expansion_laws.specs.Trees.{Tree}
 use Rattle.expansion_laws.specs.Equality.{tree_eq}
 use Rattle.expansion_laws.specs.Measures.{subtrees, OccursIn}
-use Rattle.expansion_laws.proofs.Members.{Contains-none, Contains-map, Contains-map_cases, Contains-flat_map, Contains-flat_map_cases}
 use Rattle.expansion_laws.proofs.TreeEquality.{tree_eq-same, tree_eq-itself}
 use Rattle.step_history.specs.History.{History, IsSupported}
 use Rattle.step_history.specs.Changes.{kind_in, history_by}
 use Rattle.step_history.specs.SlowHistory.{HistoryLists, ListsHistory, is_supported, slow_history}
 use Rattle.step_history.specs.Composition.{Done, OneStepIsItsChange, followed_by, no_history, chained, history_after, then_listed, chained_listed, none_listed, slow_after, SlowHistoriesChain}
-use Rattle.step_history.proofs.ListLemmas.{supported-of, of-supported, filter-has, filter-keeps, modified-listed, gone-listed}
+use Rattle.step_history.proofs.ListLemmas.{supported-of, of-supported, modified-listed, gone-listed}
 use Rattle.step_history.proofs.SlowLemmas.{slow-is}
 
 then-to : (R S : List (Tree × Tree)) (t m x : Tree) → Contains R (t, m) → Contains S (m, x) → Contains (then_listed R S) (t, x)
 then-to R S t m x r s =
     Contains-flat_map (λ (p : Tree × Tree). map (λ q. (p.0, q.1)) (filter (λ q. tree_eq p.1 q.0) S)) (t, m) (t, x) R r
-    (Contains-map (λ (q : Tree × Tree). (t, q.1)) (m, x) (filter (λ q. tree_eq m q.0) S) (filter-keeps (λ (q : Tree × Tree). tree_eq m q.0) S (m, x) s (tree_eq-itself m)))
+    (Contains-map (λ (q : Tree × Tree). (t, q.1)) (m, x) (filter (λ q. tree_eq m q.0) S) (Contains-filter (λ (q : Tree × Tree). tree_eq m q.0) S (m, x) s (tree_eq-itself m)))
 
 then-from : (R S : List (Tree × Tree)) (t x : Tree) → Contains (then_listed R S) (t, x) → (m : Tree) × Contains R (t, m) × Contains S (m, x)
 then-from R S t x h =
     let c = Contains-flat_map_cases (λ (p : Tree × Tree). map (λ q. (p.0, q.1)) (filter (λ q. tree_eq p.1 q.0) S)) (t, x) R h in
     let a = Contains-map_cases (λ (q : Tree × Tree). (c.0.0, q.1)) (t, x) (filter (λ q. tree_eq c.0.1 q.0) S) c.2 in
-    let f = filter-has (λ (q : Tree × Tree). tree_eq c.0.1 q.0) S a.0 a.1 in
+    let f = Contains-filter_cases (λ (q : Tree × Tree). tree_eq c.0.1 q.0) S a.0 a.1 in
     let first : c.0.0 ≡ t = ap (λ (p : Tree × Tree). p.0) a.2 in
     let last : a.0.1 ≡ x = ap (λ (p : Tree × Tree). p.1) a.2 in
     let middle : a.0.0 ≡ c.0.1 = sym (tree_eq-same c.0.1 a.0.0 f.1) in
@@ -72,12 +73,12 @@ module _ (kind_of : Tree → Kind) (root : Tree) where
   none-to t x h =
       subst (λ z. Contains {X = Tree × Tree} (map (λ t. (t, t)) (filter (λ t. is_supported (kind_of t)) (subtrees root))) (t, z)) h.0
       (Contains-map (λ (t : Tree). (t, t)) t (filter (λ t. is_supported (kind_of t)) (subtrees root))
-      (filter-keeps (λ t. is_supported (kind_of t)) (subtrees root) t h.2 (of-supported (kind_of t) h.1)))
+      (Contains-filter (λ t. is_supported (kind_of t)) (subtrees root) t h.2 (of-supported (kind_of t) h.1)))
 
   none-from : (t x : Tree) → Contains (none_listed kind_of root).images (t, x) → (no_history kind_of root).images t x
   none-from t x m =
       let a = Contains-map_cases (λ (t : Tree). (t, t)) (t, x) (filter (λ t. is_supported (kind_of t)) (subtrees root)) m in
-      let f = filter-has (λ t. is_supported (kind_of t)) (subtrees root) a.0 a.1 in
+      let f = Contains-filter_cases (λ t. is_supported (kind_of t)) (subtrees root) a.0 a.1 in
       let first : a.0 ≡ t = ap (λ (p : Tree × Tree). p.0) a.2 in
       let second : a.0 ≡ x = ap (λ (p : Tree × Tree). p.1) a.2 in
       (sym first ∙ second, subst (λ z. IsSupported (kind_of z)) first (supported-of (kind_of a.0) f.1), subst (λ z. OccursIn z root) first f.0)

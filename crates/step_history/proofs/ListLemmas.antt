@@ -1,14 +1,15 @@
 -- Tests of kinds and trees tell what they test, and filtered lists hold what passes.
-use Rattle.std.proofs.Common.{◌≡◌, ◌<◌, refl, ap, subst, cond, inl, inr, ◌∙◌}
+use Rattle.std.proofs.Common.{◌≡◌, ◌<◌, refl, ap, subst, inl, inr, ◌∙◌}
 use Rattle.std.proofs.lemmas.Bool.{ltb-true, lt-ltb}
-use Rattle.std.specs.Prelude.{◌↔◌, ◌≢◌, ◌&&◌, not, nat_lt, ℕ, Bool, true, false, Option, None, Some, is_none, List, [], ◌∷◌, filter, Contains}
+use Rattle.std.specs.Prelude.{◌↔◌, ◌≢◌, ◌&&◌, not, nat_lt, ℕ, Bool, true, false, Option, None, Some, is_none, List, Contains}
+use Rattle.lists.proofs.Tests.{list_any-contains, list_any-found, Contains-filter, Contains-filter_cases}
+use Rattle.lists.proofs.Members.{Contains-flat_map, Contains-flat_map_cases}
 use Rattle.orientation.specs.declared.kind.Kind.{Kind}
 use Rattle.orientation.specs.declared.kind.Kind.TheVariants.{Ve, Ed, Wi, Fa, Sh, So, CS, Co}
 use Rattle.expansion_laws.specs.Trees.{Tree, Use, uses}
 use Rattle.expansion_laws.specs.Equality.{tree_eq}
 use Rattle.expansion_laws.specs.Measures.{subtrees, OccursIn, StandsBelow}
 use Rattle.expansion_laws.specs.Requests.{Act, remove, replace, Request}
-use Rattle.expansion_laws.proofs.Members.{Contains-here, Contains-there, Contains-cases, Contains-none, Contains-flat_map, Contains-flat_map_cases, list_any-contains, list_any-found}
 use Rattle.expansion_laws.proofs.TreeEquality.{tree_eq-same, tree_eq-itself}
 use Rattle.step_history.specs.History.{IsSupported, IsGone}
 use Rattle.step_history.specs.SlowHistory.{is_supported, occurs, act_replaces, match_replaces, trees_below, is_first_in, gone_listed, modified_listed}
@@ -87,30 +88,6 @@ pub false-of : (b : Bool) → not b ≡ true → b ≡ false
 false-of true e = absurd cc
 false-of false e = refl
 
--- ---- filtered lists
-module _ {X : Type 0} (p : X → Bool) where
-  pub filter-has : (xs : List X) (x : X) → Contains (filter p xs) x → Contains xs x × (p x ≡ true)
-  filter-has [] x m = absurd (Contains-none x m)
-  filter-has (y ∷ xs) x m = go (p y) refl m (λ m. filter-has xs x m)
-    where
-      go : (b : Bool) → p y ≡ b → Contains (cond b (y ∷ filter p xs) (filter p xs)) x → (Contains (filter p xs) x → Contains xs x × (p x ≡ true)) → Contains (y ∷ xs) x × (p x ≡ true)
-      go true e m ih = elim (Contains-cases y x (filter p xs) m) [
-        | inl same ↦ (subst (λ z. Contains (y ∷ xs) z) same (Contains-here y xs), subst (λ z. p z ≡ true) same e)
-        | inr k ↦ (let r = ih k in (Contains-there y x xs r.0, r.1))
-      ]
-      go false e m ih = let r = ih m in (Contains-there y x xs r.0, r.1)
-
-  pub filter-keeps : (xs : List X) (x : X) → Contains xs x → p x ≡ true → Contains (filter p xs) x
-  filter-keeps [] x m e = absurd (Contains-none x m)
-  filter-keeps (y ∷ xs) x m e = elim (Contains-cases y x xs m) [
-    | inl same ↦ (let f : p y ≡ true = ap p same ∙ e in rw f (subst (λ z. Contains (y ∷ filter p xs) z) same (Contains-here y (filter p xs))))
-    | inr k ↦ go (p y) (filter-keeps xs x k e)
-  ]
-    where
-      go : (b : Bool) → Contains (filter p xs) x → Contains (cond b (y ∷ filter p xs) (filter p xs)) x
-      go true m = Contains-there y x (filter p xs) m
-      go false m = m
-
 -- ---- modified pairs and trees that are gone, where the list has the pairs of the relation
 module _ (R : Tree → Tree → Type 0) (pairs : List (Tree × Tree)) (same : (t x : Tree) → R t x ↔ Contains pairs (t, x)) where
   pub modified-listed : (t x : Tree) → (R t x × (t ≢ x)) ↔ Contains (modified_listed pairs) (t, x)
@@ -118,12 +95,12 @@ module _ (R : Tree → Tree → Type 0) (pairs : List (Tree × Tree)) (same : (t
     where
       to : R t x × (t ≢ x) → Contains (modified_listed pairs) (t, x)
       to m =
-          filter-keeps (λ (p : Tree × Tree). not (tree_eq p.0 p.1)) pairs (t, x) ((same t x).0 m.0)
+          Contains-filter (λ (p : Tree × Tree). not (tree_eq p.0 p.1)) pairs (t, x) ((same t x).0 m.0)
           (not-true (tree_eq t x) (λ e. m.1 (tree_eq-same t x e)))
 
       from : Contains (modified_listed pairs) (t, x) → R t x × (t ≢ x)
       from m =
-          let f = filter-has (λ (p : Tree × Tree). not (tree_eq p.0 p.1)) pairs (t, x) m in
+          let f = Contains-filter_cases (λ (p : Tree × Tree). not (tree_eq p.0 p.1)) pairs (t, x) m in
           ((same t x).1 f.0, λ e. not-of (tree_eq t x) f.1 (subst (λ z. tree_eq t z ≡ true) e (tree_eq-itself t)))
 
   has-first : (t : Tree) → is_first_in pairs t ≡ true → (x : Tree) × R t x
@@ -139,7 +116,7 @@ module _ (R : Tree → Tree → Type 0) (pairs : List (Tree × Tree)) (same : (t
     where
       to : IsGone kind_of before after R t → Contains (gone_listed kind_of before after pairs) t
       to g =
-          filter-keeps (λ t. is_supported (kind_of t) && (not (is_first_in pairs t) && not (occurs t after))) (subtrees before) t g.1
+          Contains-filter (λ t. is_supported (kind_of t) && (not (is_first_in pairs t) && not (occurs t after))) (subtrees before) t g.1
           (and-both (is_supported (kind_of t)) (not (is_first_in pairs t) && not (occurs t after)) (of-supported (kind_of t) g.0)
           (and-both (not (is_first_in pairs t)) (not (occurs t after))
           (not-true (is_first_in pairs t) (λ e. let i = has-first t e in g.2 i.0 i.1))
@@ -147,7 +124,7 @@ module _ (R : Tree → Tree → Type 0) (pairs : List (Tree × Tree)) (same : (t
 
       from : Contains (gone_listed kind_of before after pairs) t → IsGone kind_of before after R t
       from m =
-          let f = filter-has (λ t. is_supported (kind_of t) && (not (is_first_in pairs t) && not (occurs t after))) (subtrees before) t m in
+          let f = Contains-filter_cases (λ t. is_supported (kind_of t) && (not (is_first_in pairs t) && not (occurs t after))) (subtrees before) t m in
           let p = and-parts (is_supported (kind_of t)) (not (is_first_in pairs t) && not (occurs t after)) f.1 in
           let q = and-parts (not (is_first_in pairs t)) (not (occurs t after)) p.1 in (
             supported-of (kind_of t) p.0,

@@ -3,6 +3,8 @@ use Rattle.std.proofs.Common.{◌≡◌, sym, ap, subst, inl, inr, ◌∙◌}
 use Rattle.std.specs.Prelude.{◌↔◌, ◌<◌, ◌&&◌, not, nat_lt, ℕ, suc, Bool, true, Some, is_none, unwrap_or, List, [], map, filter, Contains}
 use Rattle.std.specs.List.{flat_map}
 use Rattle.std.proofs.lemmas.List.Elements.{Contains-append_left, Contains-append_right, Contains-append_cases}
+use Rattle.lists.proofs.Tests.{list_any-contains, list_any-found, Contains-filter, Contains-filter_cases}
+use Rattle.lists.proofs.Members.{Contains-flat_map, Contains-flat_map_cases, Contains-map, Contains-map_cases}
 use Rattle.orientation.specs.declared.kind.Kind.{Kind}
 use Rattle.orientation.specs.Kinds.{rank_of}
 use Rattle.location_words.proofs.WordLaws.{IsWord-mul}
@@ -15,14 +17,13 @@ use Rattle.expansion_laws.specs.Steps.{Step, kind, is_entered}
 use Rattle.expansion_laws.specs.Rewriting.{results_within, RelativeResults}
 use Rattle.expansion_laws.specs.Visits.{IsVisit, IsStopped, IsResult, IsImage, IsReplaced}
 use Rattle.expansion_laws.specs.WholeVisits.{is_whole}
-use Rattle.expansion_laws.proofs.Members.{Contains-map, Contains-map_cases, Contains-flat_map, Contains-flat_map_cases, list_any-contains, list_any-found}
 use Rattle.expansion_laws.proofs.TreeEquality.{tree_eq-same, tree_eq-itself}
 use Rattle.expansion_laws.proofs.LevelLemmas.{Rewrites-one}
 use Rattle.expansion_laws.proofs.WholeLemmas.{whole-lists}
 use Rattle.step_history.specs.History.{IsSupported, images_of, generated_of, history_of}
 use Rattle.step_history.specs.Changes.{by_requests}
 use Rattle.step_history.specs.SlowHistory.{is_supported, occurs, match_replaces, trees_below, all_visits, pairs_of, stops, kept_below, image_list, replaced_list, is_of_input, is_new, images_listed, came_new, generated_listed, lists_of, ListsHistory, SlowHistoryIsTheChanges}
-use Rattle.step_history.proofs.ListLemmas.{and-parts, and-both, not-of, not-true, supported-of, of-supported, occurs-of, of-occurs, below-of, of-below, lower-of, of-lower, replaces-of, of-replaces, none-of, false-of, filter-has, filter-keeps, modified-listed, gone-listed}
+use Rattle.step_history.proofs.ListLemmas.{and-parts, and-both, not-of, not-true, supported-of, of-supported, occurs-of, of-occurs, below-of, of-below, lower-of, of-lower, replaces-of, of-replaces, none-of, false-of, modified-listed, gone-listed}
 
 module _ (s : Step) (n : ℕ) (root : Use) (whole : is_whole s n root.tree (inside at_root root) ≡ true) where
   visited : (v : Tree × Context) → Contains (all_visits s n root) v → IsVisit s root v.0 v.1
@@ -70,7 +71,7 @@ module _ (s : Step) (n : ℕ) (root : Use) (whole : is_whole s n root.tree (insi
       Contains (flat_map (kept_below s n root) (filter (stops s n root) (all_visits s n root))) (x, x)
   below-listed x above h b =
       Contains-flat_map (kept_below s n root) (above, h.0) (x, x) (filter (stops s n root) (all_visits s n root))
-      (filter-keeps (stops s n root) (all_visits s n root) (above, h.0) (listed above h.0 h.1)
+      (Contains-filter (stops s n root) (all_visits s n root) (above, h.0) (listed above h.0 h.1)
       (and-both (is_none (match_of s.requests above h.0)) (not (is_entered s above)) (ap is_none h.2) (ap not h.3)))
       (Contains-map (λ (x : Tree). (x, x)) x (trees_below above) (of-below x above b))
 
@@ -78,7 +79,7 @@ module _ (s : Step) (n : ℕ) (root : Use) (whole : is_whole s n root.tree (insi
       (y ≡ x) × ((above : Tree) × IsStopped s root above × StandsBelow x above)
   listed-below x y m =
       let v = Contains-flat_map_cases (kept_below s n root) (x, y) (filter (stops s n root) (all_visits s n root)) m in
-      let f = filter-has (stops s n root) (all_visits s n root) v.0 v.1 in
+      let f = Contains-filter_cases (stops s n root) (all_visits s n root) v.0 v.1 in
       let t = and-parts (is_none (match_of s.requests v.0.0 v.0.1)) (not (is_entered s v.0.0)) f.1 in
       let a = Contains-map_cases (λ (x : Tree). (x, x)) (x, y) (trees_below v.0.0) v.2 in
       let first : a.0 ≡ x = ap (λ (p : Tree × Tree). p.0) a.2 in
@@ -104,13 +105,13 @@ module _ (s : Step) (n : ℕ) (root : Use) (whole : is_whole s n root.tree (insi
   replaced-listed : (x y : Tree) → IsReplaced s root x y → Contains (replaced_list s n root) (x, y)
   replaced-listed x y i =
       Contains-flat_map (pairs_of s n root) (x, i.0) (x, y) (filter (λ v. match_replaces (match_of s.requests v.0 v.1)) (all_visits s n root))
-      (filter-keeps (λ (v : Tree × Context). match_replaces (match_of s.requests v.0 v.1)) (all_visits s n root) (x, i.0) (listed x i.0 i.4) (of-replaces (match_of s.requests x i.0) i.1 i.2 i.5 i.6))
+      (Contains-filter (λ (v : Tree × Context). match_replaces (match_of s.requests v.0 v.1)) (all_visits s n root) (x, i.0) (listed x i.0 i.4) (of-replaces (match_of s.requests x i.0) i.1 i.2 i.5 i.6))
       (pair-there x y i.0 i.3 i.4 i.7 i.8)
 
   listed-replaced : (x y : Tree) → Contains (replaced_list s n root) (x, y) → IsReplaced s root x y
   listed-replaced x y m =
       let v = Contains-flat_map_cases (pairs_of s n root) (x, y) (filter (λ v. match_replaces (match_of s.requests v.0 v.1)) (all_visits s n root)) m in
-      let f = filter-has (λ (v : Tree × Context). match_replaces (match_of s.requests v.0 v.1)) (all_visits s n root) v.0 v.1 in
+      let f = Contains-filter_cases (λ (v : Tree × Context). match_replaces (match_of s.requests v.0 v.1)) (all_visits s n root) v.0 v.1 in
       let l = visited v.0 f.0 in
       let r = replaces-of (match_of s.requests v.0.0 v.0.1) f.1 in
       let p = pair-from v.0 x y l v.2 in
@@ -176,11 +177,11 @@ module _ (kind_of : Tree → Kind) (before after : Tree) (Image Replaced : Tree 
   images-same t x = (there, back)
     where
       there : images_of kind_of before after Image Replaced t x → Contains (images_listed kind_of before after imaged replaced) (t, x)
-      there h = filter-keeps (λ (p : Tree × Tree). in_input p.0) imaged (t, x) (to t x h.2) (of-input t h.0 h.1)
+      there h = Contains-filter (λ (p : Tree × Tree). in_input p.0) imaged (t, x) (to t x h.2) (of-input t h.0 h.1)
 
       back : Contains (images_listed kind_of before after imaged replaced) (t, x) → images_of kind_of before after Image Replaced t x
       back m =
-          let f = filter-has (λ (p : Tree × Tree). in_input p.0) imaged (t, x) m in
+          let f = Contains-filter_cases (λ (p : Tree × Tree). in_input p.0) imaged (t, x) m in
           let i = input-of t f.1 in (i.0, i.1, from t x f.0)
 
   below_came : Tree × Tree → List (Tree × Tree)
@@ -190,19 +191,19 @@ module _ (kind_of : Tree → Kind) (before after : Tree) (Image Replaced : Tree 
   unfolding in_input came below_came
   generated-to t x h =
       Contains-flat_map below_came (t, h.0) (t, x) (filter (λ p. in_input p.0) replaced)
-      (filter-keeps (λ (p : Tree × Tree). in_input p.0) replaced (t, h.0) (to_replaced t h.0 h.4) (of-input t h.2 h.3))
+      (Contains-filter (λ (p : Tree × Tree). in_input p.0) replaced (t, h.0) (to_replaced t h.0 h.4) (of-input t h.2 h.3))
       (Contains-map (λ (x : Tree). (t, x)) x (filter (came t) (trees_below h.0))
-      (filter-keeps (came t) (trees_below h.0) x (of-below x h.0 h.7) (of-came t x h.5 h.6 (of-new h.1 x h.8 h.9))))
+      (Contains-filter (came t) (trees_below h.0) x (of-below x h.0 h.7) (of-came t x h.5 h.6 (of-new h.1 x h.8 h.9))))
 
   generated-from : (t x : Tree) → Contains (generated_listed kind_of before after imaged replaced) (t, x) → generated_of kind_of before after Image Replaced t x
   unfolding in_input came below_came
   generated-from t x m =
       let c = Contains-flat_map_cases below_came (t, x) (filter (λ p. in_input p.0) replaced) m in
-      let f = filter-has (λ (p : Tree × Tree). in_input p.0) replaced c.0 c.1 in
+      let f = Contains-filter_cases (λ (p : Tree × Tree). in_input p.0) replaced c.0 c.1 in
       let a = Contains-map_cases (λ (x : Tree). (c.0.0, x)) (t, x) (filter (came c.0.0) (trees_below c.0.1)) c.2 in
       let first : c.0.0 ≡ t = ap (λ (p : Tree × Tree). p.0) a.2 in
       let second : a.0 ≡ x = ap (λ (p : Tree × Tree). p.1) a.2 in
-      let g = filter-has (came c.0.0) (trees_below c.0.1) a.0 a.1 in
+      let g = Contains-filter_cases (came c.0.0) (trees_below c.0.1) a.0 a.1 in
       let input = input-of c.0.0 f.1 in
       let parts = came-of c.0.0 a.0 g.1 in
       let image = new-of a.0 parts.2 in

@@ -2,6 +2,7 @@
 use Rattle.std.proofs.Common.{◌≡◌, sym, ap, subst, inl, inr, ◌∙◌}
 use Rattle.std.specs.Prelude.{false, None, Some, List, [], ◌∷◌, if◌then◌else◌}
 use Rattle.std.specs.Option.{option_map}
+use Rattle.lists.proofs.Members.{Contains-here, Contains-map_cases}
 use Rattle.location_words.specs.Pairs.{IsWord}
 use Rattle.location_words.proofs.WordLaws.{IsWord-mul}
 use Rattle.orientation.specs.declared.kind.Kind.{Kind}
@@ -13,7 +14,6 @@ use Rattle.expansion_laws.specs.Steps.{Step, is_entered}
 use Rattle.expansion_laws.specs.Rewriting.{all_results, is_pruned, rebuilt, results_within, StepsTo}
 use Rattle.expansion_laws.specs.Demands.{demands_by, gathered_by}
 use Rattle.expansion_laws.specs.Visits.{LeadsTo, itself, onto, IsResult, IsImage, IsReplaced}
-use Rattle.expansion_laws.proofs.Members.{Contains-here, Contains-map_cases}
 use Rattle.expansion_laws.proofs.Subtrees.{subtrees-use, subtrees-onward}
 use Rattle.expansion_laws.proofs.VisitLemmas.{visit-next}
 use Rattle.expansion_laws.proofs.OccurringLemmas.{results-occur}

@@ -11,8 +11,6 @@ mod reader;
 mod spell;
 mod surface;
 mod surfaces;
-#[cfg(test)]
-mod tests;
 
 pub use reader::SurfaceReader;
 pub use spell::SurfaceSpell;

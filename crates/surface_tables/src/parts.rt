@@ -1,10 +1,7 @@
 //! The parts of a surface: what stands around it, and what it is.
-ghost use Rattle.std.specs.Prelude.{◌≡◌, [], ◌∷◌, ◌++◌, OnOk, MatchOption};
-
 use crate::surface::{Surface, SurfaceFlags};
 use brep_tokens::Decimals;
-use std::alloc::{AllocError, Global};
-use std::marker::Model;
+use lists::ListOf;
 
 /// What a surface stands in.
 #[derive(Clone, Copy)]
@@ -21,10 +18,7 @@ pub struct Frame {
 }
 
 /// Frames, the outermost first.
-#[derive(Drop)]
-pub struct Frames {
-    items: Vec<Frame>,
-}
+pub type Frames = ListOf<Frame>;
 
 /// A B-spline surface, but for its decimals and knots.
 #[derive(Clone, Copy)]
@@ -73,35 +67,4 @@ pub struct Body {
 pub enum Part {
     Leaf(Surface),
     Open(Frame),
-}
-
-impl Model for Frames {
-    ghost use Rattle.std.specs.Prelude.{List};
-    ghost use Rattle.surface_tables.specs.declared.parts.Frame.{Frame};
-
-    ghost Value = { List Frame };
-
-    ghost view = { λ f. f.items.items };
-}
-
-impl Frames {
-    pub fn new(alloc: Global) -> Frames
-        ensures { result ≡ [] }
-    {
-        Frames {
-            items: Vec::new(alloc),
-        }
-    }
-
-    pub fn push(&mut self, item: Frame) -> Result<(), AllocError>
-        ensures ok { OnOk result (self.new ≡ self.old ++ item ∷ []) }
-    {
-        self.items.push(item).map_err(AllocError::from)
-    }
-
-    pub fn pop(&mut self) -> Option<Frame>
-        ensures { MatchOption result ((self.old ≡ []) × (self.new ≡ [])) (λ last. self.old ≡ self.new ++ last ∷ []) }
-    {
-        self.items.pop()
-    }
 }

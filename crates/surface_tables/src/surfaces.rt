@@ -1,6 +1,6 @@
 //! The surfaces of a section.
 use crate::surface::Surface;
-use entry_readers::EntryList;
+use lists::ListOf;
 
 /// The entries of the section `Surfaces`.
-pub type Surfaces = EntryList<Surface>;
+pub type Surfaces = ListOf<Surface>;

@@ -14,11 +14,11 @@ use Rattle.tshape_data.specs.Parts.{column_part, column_parts, continuity_text}
 use Rattle.tshape_data.specs.RepReading.{column_at, columns_from, continuity_at, size_of}
 use Rattle.tshape_data.specs.Sound.{AreInColumns, IsInColumn, sizes}
 use Rattle.tshape_data.specs.Spelling.{part_text}
-use Rattle.tshape_data.specs.declared.bounds.Bounds.{Bounds}
+use Rattle.tshape_data.specs.declared.head_bounds.HeadBounds.{HeadBounds}
 use Rattle.tshape_data.specs.declared.columns.Table.{Table}
 use Rattle.tshape_data.specs.declared.columns.Table.TheVariants.{Curve2s, Curves, Polygons, PolygonsOn, Surfaces, Meshes}
 use Rattle.tshape_data.specs.declared.columns.Column.{Column}
-use Rattle.tshape_data.specs.declared.columns.Column.TheVariants.{Entry, Place, Continuity}
+use Rattle.tshape_data.specs.declared.columns.Column.TheVariants.{Entry, Location, Continuity}
 
 pub spelled_ok : {A : Type 0} (code : ReadCode) (t : Token) (ts rest : List Token) (o : Option A) (x : A) → spelled code t ts o ≡ Ok (x, rest) → (o ≡ Some x) × (ts ≡ rest)
 spelled_ok code t ts rest (Some y) x e =
@@ -30,7 +30,7 @@ spelled_ok code t ts rest None x e = absurd cc
 abbrev pub number_texts : List Column → List ℕ → List (List ℕ)
 number_texts cs ns = map part_text (column_parts cs ns)
 
-same_size : (b : Bounds) (table : Table) → size_of (sizes b) table ≡ size_of b table
+same_size : (b : HeadBounds) (table : Table) → size_of (sizes b) table ≡ size_of b table
 same_size b Curve2s = refl
 same_size b Curves = refl
 same_size b Polygons = refl
@@ -52,15 +52,15 @@ module _ (forms : FormsAreExact) where
       let is : slice_get continuity_words n ≡ Some t.text = slice_get-get_or continuity_words n [] lt ∙ ap (λ (x : List ℕ). Some x) (sym b.0) in
       rw ((forms.continuities t.text n).1 is, b.1) refl
 
-module _ (forms : FormsAreExact) (fields : FieldsAreExact) (b : Bounds) where
+module _ (forms : FormsAreExact) (fields : FieldsAreExact) (b : HeadBounds) where
   column_takes : (c : Column) (ts rest : List Token) (n : ℕ) → column_at b c ts ≡ Ok (n, rest) → Begins ts (part_text (column_part c n) ∷ []) rest × IsInColumn (sizes b) c n
   column_takes (Entry table) ts rest n e = rw (same_size b table) ((fields.ranged 1 (size_of b table)).takes ts rest n e)
-  column_takes Place ts rest n e = (fields.ranged 0 b.locations).takes ts rest n e
+  column_takes Location ts rest n e = (fields.ranged 0 b.locations).takes ts rest n e
   column_takes Continuity ts rest n e = continuity_takes forms ts rest n e
 
   column_again : (c : Column) (ts rest : List Token) (n : ℕ) → Begins ts (part_text (column_part c n) ∷ []) rest → IsInColumn (sizes b) c n → column_at b c ts ≡ Ok (n, rest)
   column_again (Entry table) ts rest n begins is = (fields.ranged 1 (size_of b table)).again ts rest n begins (rw (same_size b table) at is)
-  column_again Place ts rest n begins is = (fields.ranged 0 b.locations).again ts rest n begins is
+  column_again Location ts rest n begins is = (fields.ranged 0 b.locations).again ts rest n begins is
   column_again Continuity ts rest n begins is = continuity_again forms ts rest n begins is
 
   pub columns_takes : (cs : List Column) (ns : List ℕ) (ts rest : List Token) (xs : List ℕ) → columns_from b ns cs ts ≡ Ok (xs, rest)

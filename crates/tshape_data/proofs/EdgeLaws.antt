@@ -13,7 +13,7 @@ use Rattle.tshape_data.specs.Parts.{texts_in}
 use Rattle.tshape_data.specs.RepReading.{columns_at, edge_form_at, edge_kind, edge_rep_at, with_room}
 use Rattle.tshape_data.specs.Reps.{edge_rep, form_of_edge, numbers_of_edge, texts_of_edge}
 use Rattle.tshape_data.specs.Sound.{AreInColumns, IsSoundEdgeRep, sizes}
-use Rattle.tshape_data.specs.declared.bounds.Bounds.{Bounds}
+use Rattle.tshape_data.specs.declared.head_bounds.HeadBounds.{HeadBounds}
 use Rattle.tshape_data.specs.declared.forms.EdgeForm.{EdgeForm}
 use Rattle.tshape_data.specs.declared.forms.EdgeForm.TheVariants as edges
 use Rattle.tshape_data.specs.declared.reps.EdgeRep.{EdgeRep}
@@ -108,7 +108,7 @@ same_rep (edge_reps.Polygon polygon location) = refl
 same_rep (edge_reps.PolygonOn polygon_on mesh location) = refl
 same_rep (edge_reps.SeamPolygons first second mesh location) = refl
 
-module _ (forms : FormsAreExact) (fields : FieldsAreExact) (b : Bounds) (version : ℕ) where
+module _ (forms : FormsAreExact) (fields : FieldsAreExact) (b : HeadBounds) (version : ℕ) where
   -- a representation that was read: of this form, with these tokens after the form's number
   pub record IsEdgeRep (f : EdgeForm) (ts rest : List Token) (r : EdgeRep) : Type 0 where
     pub form : form_of_edge r ≡ f

@@ -14,7 +14,7 @@ use Rattle.tshape_data.specs.Laws.{HeadsAreExact}
 use Rattle.tshape_data.specs.RepReading.{most_reps}
 use Rattle.tshape_data.specs.Sound.{Fits}
 use Rattle.tshape_data.specs.Spelling.{spell_head, spell_payload}
-use Rattle.tshape_data.specs.declared.bounds.Bounds.{Bounds}
+use Rattle.tshape_data.specs.declared.head_bounds.HeadBounds.{HeadBounds}
 use Rattle.tshape_data.specs.declared.head.Flags.{Flags}
 use Rattle.tshape_data.specs.declared.head.Head.{Head}
 use Rattle.tshape_data.proofs.FrameLaws.{flags_again, flags_takes, kind_again, kind_takes}
@@ -29,7 +29,7 @@ flags_not_two : (ts rest : List Token) (f : Flags) → Begins ts (spell_flags f 
 flags_not_two [] rest f b = absurd b
 flags_not_two (t ∷ ts) rest f b = rw b.0 (not_two f.free (flag_code f.modified) (drop 2 (spell_flags f)))
 
-module _ (forms : FormsAreExact) (fields : FieldsAreExact) (tell : SignsAndNamesTell) (b : Bounds) (version : ℕ) (few : b.reps ≤ most_reps) where
+module _ (forms : FormsAreExact) (fields : FieldsAreExact) (tell : SignsAndNamesTell) (b : HeadBounds) (version : ℕ) (few : b.reps ≤ most_reps) where
   takes : (ts rest : List Token) (h : Head) → head_at b version ts ≡ Ok (h, rest) → Begins ts (spell_head version h) rest × Fits b version h
   takes ts rest h e =
       let k = bind_ok (kind_at ts) (λ kind. payload_at b version kind.0 kind.1 >>= λ payload. flagged_at kind.0 payload.0 payload.1) (h, rest) e in

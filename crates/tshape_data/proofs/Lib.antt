@@ -9,8 +9,8 @@ pub mod PayloadLaws
 pub mod HeadLaws
 pub mod SpellLaws
 pub mod TellLaws
-pub mod PlaceLaws
-pub mod MoveLaws
+pub mod LocationLaws
+pub mod RenumberingLaws
 pub mod WordLaws
 pub mod LineLaws
 pub mod Shortness

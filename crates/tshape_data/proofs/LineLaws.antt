@@ -19,9 +19,9 @@ use Rattle.tshape_data.specs.Parts.{column_part, continuity_text, edge_flags, te
 use Rattle.tshape_data.specs.Reps.{form_of_edge, form_of_point, numbers_of_edge, numbers_of_point, texts_of_edge, texts_of_point}
 use Rattle.tshape_data.specs.Sound.{AreInColumns, IsInColumn, IsSoundEdge, IsSoundEdgeRep, IsSoundFace, IsSoundPayload, IsSoundPoint, IsSoundVertex}
 use Rattle.tshape_data.specs.Spelling.{part_text, spell_payload}
-use Rattle.tshape_data.specs.declared.bounds.Bounds.{Bounds}
+use Rattle.tshape_data.specs.declared.head_bounds.HeadBounds.{HeadBounds}
 use Rattle.tshape_data.specs.declared.columns.Column.{Column}
-use Rattle.tshape_data.specs.declared.columns.Column.TheVariants.{Entry, Place, Continuity}
+use Rattle.tshape_data.specs.declared.columns.Column.TheVariants.{Entry, Location, Continuity}
 use Rattle.tshape_data.specs.declared.reps.PointRep.{PointRep}
 use Rattle.tshape_data.specs.declared.reps.EdgeRep.{EdgeRep}
 use Rattle.tshape_data.specs.declared.reps.EdgeRep.TheVariants as edge_reps
@@ -34,7 +34,7 @@ use Rattle.tshape_data.specs.declared.head.Payload.TheVariants.{Vertex, Edge, Fa
 use Rattle.tshape_data.proofs.ColumnLaws.{number_texts}
 use Rattle.tshape_data.proofs.FrameLaws.{flags_pass}
 use Rattle.tshape_data.proofs.PayloadTexts.{edge_end, edge_rep_spelled, edge_rep_texts, edge_reps_texts, edge_spelled, face_spelled, mesh_texts, point_rep_spelled, vertex_end, vertex_spelled}
-use Rattle.tshape_data.proofs.PlaceLaws.{by_payload}
+use Rattle.tshape_data.proofs.LocationLaws.{by_payload}
 use Rattle.tshape_data.proofs.WordLaws.{LinesSpell, Spells, decimals_spell, each_line, each_lines, line_then, lines_join, no_lines, no_words, plain_then, word_then, words_join}
 
 -- ---- texts that are plain
@@ -71,10 +71,10 @@ module _ (written : WrittenIsRead) where
   plain_flags : (f : Flags) → IsPlain (spell_flags f)
   plain_flags f = written.flags (spell_flags f) (omega arith) (flags_pass f)
 
-  module _ (b : Bounds) where
+  module _ (b : HeadBounds) where
     plain_number : (c : Column) (n : ℕ) → IsInColumn b c n → IsPlain (part_text (column_part c n))
     plain_number (Entry table) n is = written.numbers n
-    plain_number Place n is = written.numbers n
+    plain_number Location n is = written.numbers n
     plain_number Continuity n is = written.continuities n (continuity_text n) (continuity_found n is)
 
     columns_spell : (cs : List Column) (ns : List ℕ) → AreInColumns b cs ns → Spells (number_texts cs ns) (number_texts cs ns)

@@ -10,7 +10,7 @@ use Rattle.tshape_data.specs.Parts.{Part, tokens}
 use Rattle.tshape_data.specs.Reps.{edge_rep, form_of_edge, form_of_point, numbers_of_edge, numbers_of_point, point_rep, texts_of_edge, texts_of_point}
 use Rattle.tshape_data.specs.Sound.{AreInColumns, IsSoundEdgeRep, IsSoundPoint}
 use Rattle.tshape_data.specs.Spelling.{part_text}
-use Rattle.tshape_data.specs.declared.bounds.Bounds.{Bounds}
+use Rattle.tshape_data.specs.declared.head_bounds.HeadBounds.{HeadBounds}
 use Rattle.tshape_data.specs.declared.columns.Column.{Column}
 use Rattle.tshape_data.specs.declared.forms.PointForm.{PointForm}
 use Rattle.tshape_data.specs.declared.forms.PointForm.TheVariants as points
@@ -59,7 +59,7 @@ five_of : (ns : List ℕ) → length ns ≡ 5 → slice_index ns 0 ∷ slice_ind
 five_of [] n = absurd (omega (arith, n))
 five_of (a ∷ ns) n = ap (λ z. a ∷ z) (four_of ns (omega (arith, n)))
 
-many_in : (b : Bounds) (cs : List Column) (ns : List ℕ) → AreInColumns b cs ns → length ns ≡ length cs
+many_in : (b : HeadBounds) (cs : List Column) (ns : List ℕ) → AreInColumns b cs ns → length ns ≡ length cs
 many_in b [] [] are = refl
 many_in b [] (n ∷ ns) are = absurd are
 many_in b (c ∷ cs) [] are = absurd are
@@ -85,7 +85,7 @@ edge_numbers_of edges.Polygon ns texts n = two_of ns n
 edge_numbers_of edges.PolygonOn ns texts n = three_of ns n
 edge_numbers_of edges.SeamPolygons ns texts n = four_of ns n
 
-pub edge_numbers_back : (b : Bounds) (form : EdgeForm) (ns : List ℕ) (texts : List (List ℕ)) → AreInColumns b (edge_columns form) ns → numbers_of_edge (edge_rep form ns texts) ≡ ns
+pub edge_numbers_back : (b : HeadBounds) (form : EdgeForm) (ns : List ℕ) (texts : List (List ℕ)) → AreInColumns b (edge_columns form) ns → numbers_of_edge (edge_rep form ns texts) ≡ ns
 edge_numbers_back b form ns texts are = edge_numbers_of form ns texts (many_in b (edge_columns form) ns are)
 
 pub edge_texts_back : (version : ℕ) (form : EdgeForm) (ns : List ℕ) (texts : List (List ℕ)) → length texts ≡ edge_texts version form → texts_of_edge (edge_rep form ns texts) ≡ texts
@@ -97,7 +97,7 @@ edge_texts_back version edges.Polygon ns texts n = sym (nil_from_length texts n)
 edge_texts_back version edges.PolygonOn ns texts n = sym (nil_from_length texts n)
 edge_texts_back version edges.SeamPolygons ns texts n = sym (nil_from_length texts n)
 
-pub edge_rep_sound : (b : Bounds) (version : ℕ) (form : EdgeForm) (ns : List ℕ) (texts : List (List ℕ)) → AreInColumns b (edge_columns form) ns → AreDecimals (edge_texts version form) texts
+pub edge_rep_sound : (b : HeadBounds) (version : ℕ) (form : EdgeForm) (ns : List ℕ) (texts : List (List ℕ)) → AreInColumns b (edge_columns form) ns → AreDecimals (edge_texts version form) texts
     → IsSoundEdgeRep b version (edge_rep form ns texts)
 edge_rep_sound b version form ns texts are decimals =
     let f = edge_form_back form ns texts in
@@ -115,7 +115,7 @@ point_numbers_of points.OnCurve ns texts n = two_of ns n
 point_numbers_of points.OnCurve2 ns texts n = three_of ns n
 point_numbers_of points.OnSurface ns texts n = two_of ns n
 
-pub point_numbers_back : (b : Bounds) (form : PointForm) (ns : List ℕ) (texts : List (List ℕ)) → AreInColumns b (point_columns form) ns → numbers_of_point (point_rep form ns texts) ≡ ns
+pub point_numbers_back : (b : HeadBounds) (form : PointForm) (ns : List ℕ) (texts : List (List ℕ)) → AreInColumns b (point_columns form) ns → numbers_of_point (point_rep form ns texts) ≡ ns
 point_numbers_back b form ns texts are = point_numbers_of form ns texts (many_in b (point_columns form) ns are)
 
 pub point_texts_back : (form : PointForm) (ns : List ℕ) (texts : List (List ℕ)) → texts_of_point (point_rep form ns texts) ≡ texts
@@ -123,7 +123,7 @@ point_texts_back points.OnCurve ns texts = refl
 point_texts_back points.OnCurve2 ns texts = refl
 point_texts_back points.OnSurface ns texts = refl
 
-pub point_rep_sound : (b : Bounds) (form : PointForm) (ns : List ℕ) (texts : List (List ℕ)) → AreInColumns b (point_columns form) ns → AreDecimals (1 + second_texts form) texts → IsSoundPoint b (point_rep form ns texts)
+pub point_rep_sound : (b : HeadBounds) (form : PointForm) (ns : List ℕ) (texts : List (List ℕ)) → AreInColumns b (point_columns form) ns → AreDecimals (1 + second_texts form) texts → IsSoundPoint b (point_rep form ns texts)
 point_rep_sound b form ns texts are decimals =
     let f = point_form_back form ns texts in
     record { numbers = rw (f, point_numbers_back b form ns texts are) are; decimals = rw (f, point_texts_back form ns texts) decimals }

@@ -17,7 +17,7 @@ use Rattle.tshape_data.specs.Parts.{edge_flags}
 use Rattle.tshape_data.specs.RepReading.{edge_form_at, edge_rep_at, edge_reps_at, param_at, point_rep_at, points_at}
 use Rattle.tshape_data.specs.Sound.{IsMesh, IsSoundEdgeRep, IsSoundPayload, IsSoundPoint, rep_count, sizes}
 use Rattle.tshape_data.specs.Spelling.{spell_payload}
-use Rattle.tshape_data.specs.declared.bounds.Bounds.{Bounds}
+use Rattle.tshape_data.specs.declared.head_bounds.HeadBounds.{HeadBounds}
 use Rattle.tshape_data.specs.declared.reps.PointRep.{PointRep}
 use Rattle.tshape_data.specs.declared.reps.EdgeRep.{EdgeRep}
 use Rattle.tshape_data.specs.declared.head.VertexData.{VertexData}
@@ -35,7 +35,7 @@ abbrev pub IsNotTwo : List Token → Type 0
 IsNotTwo [] = ⊥
 IsNotTwo (t ∷ ts) = pointwise nat_eq t.text (codes "2") ≡ false
 
-module _ (forms : FormsAreExact) (fields : FieldsAreExact) (b : Bounds) where
+module _ (forms : FormsAreExact) (fields : FieldsAreExact) (b : HeadBounds) where
   -- data that were read
   pub record IsPayload (version : ℕ) (k : Kind) (ts rest : List Token) (p : Payload) : Type 0 where
     pub begins : Begins ts (spell_payload version p) rest

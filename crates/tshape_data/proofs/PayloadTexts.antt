@@ -5,7 +5,7 @@ use Rattle.std.specs.List.{flat_map}
 use Rattle.brep_tokens.specs.Forms.{flag_text}
 use Rattle.std.proofs.lemmas.List.{map-append}
 use Rattle.tshape_data.specs.Columns.{edge_columns, edge_number, point_columns, point_number}
-use Rattle.tshape_data.specs.Parts.{column_parts, edge_flags, edge_rep_parts, entry, mesh_parts, place, point_parts, texts_in, token, tokens}
+use Rattle.tshape_data.specs.Parts.{column_parts, edge_flags, edge_rep_parts, entry, mesh_parts, located, point_parts, texts_in, token, tokens}
 use Rattle.tshape_data.specs.Reps.{form_of_edge, form_of_point, numbers_of_edge, numbers_of_point, texts_of_point}
 use Rattle.tshape_data.specs.Spelling.{part_text, spell_payload}
 use Rattle.tshape_data.specs.declared.columns.Table.TheVariants.{Surfaces}
@@ -74,4 +74,4 @@ abbrev pub face_texts : FaceData → List (List ℕ)
 face_texts d = flag_text d.natural ∷ (d.tolerance ++ decimal d.surface ∷ decimal d.location ∷ mesh_texts d.mesh)
 
 pub face_spelled : (version : ℕ) (d : FaceData) → spell_payload version (Face d) ≡ face_texts d
-face_spelled version d = ap (λ (z : List (List ℕ)). flag_text d.natural ∷ z) (texts_then d.tolerance (entry Surfaces d.surface ∷ place d.location ∷ mesh_parts d.mesh))
+face_spelled version d = ap (λ (z : List (List ℕ)). flag_text d.natural ∷ z) (texts_then d.tolerance (entry Surfaces d.surface ∷ located d.location ∷ mesh_parts d.mesh))

@@ -18,7 +18,7 @@ use Rattle.tshape_data.specs.RepReading.{columns_at, param_at, point_form_at, po
 use Rattle.tshape_data.specs.Reps.{form_of_point, numbers_of_point, point_rep, texts_of_point}
 use Rattle.tshape_data.specs.Sound.{AreInColumns, IsSoundPoint, sizes}
 use Rattle.tshape_data.specs.Spelling.{part_text}
-use Rattle.tshape_data.specs.declared.bounds.Bounds.{Bounds}
+use Rattle.tshape_data.specs.declared.head_bounds.HeadBounds.{HeadBounds}
 use Rattle.tshape_data.specs.declared.forms.PointForm.{PointForm}
 use Rattle.tshape_data.specs.declared.forms.PointForm.TheVariants as points
 use Rattle.tshape_data.specs.declared.reps.PointRep.{PointRep}
@@ -179,7 +179,7 @@ same_rep (point_reps.OnCurve texts curve location) = refl
 same_rep (point_reps.OnCurve2 texts curve2 surface location) = refl
 same_rep (point_reps.OnSurface texts surface location) = refl
 
-module _ (forms : FormsAreExact) (fields : FieldsAreExact) (b : Bounds) where
+module _ (forms : FormsAreExact) (fields : FieldsAreExact) (b : HeadBounds) where
   -- a representation that was read: of this form, with this parameter before the form's number and these tokens after it
   pub record IsPointRep (f : PointForm) (param : List ℕ) (ts rest : List Token) (p : PointRep) : Type 0 where
     pub second : List (List ℕ)

@@ -6,7 +6,7 @@ use Rattle.tshape_data.specs.Columns.{point_columns}
 use Rattle.tshape_data.specs.ColumnsLeft.{FitColumns, IsNumberDue, columns_left, numbers_of}
 use Rattle.tshape_data.specs.PointsLeft.{at_stage, numbers_then, point_then, then_points}
 use Rattle.tshape_data.specs.RepReading.{columns_at, param_at, point_form_at, point_rep_at}
-use Rattle.tshape_data.specs.declared.bounds.Bounds.{Bounds}
+use Rattle.tshape_data.specs.declared.head_bounds.HeadBounds.{HeadBounds}
 use Rattle.tshape_data.specs.declared.columns.Column.{Column}
 use Rattle.tshape_data.specs.declared.columns_due.ColumnsDue.{ColumnsDue}
 use Rattle.tshape_data.specs.declared.forms.PointForm.{PointForm}
@@ -34,7 +34,7 @@ fresh_columns form r len none = record {
 
 -- where no parameter is due, the numbers are
 pub texts_past : (r : PointRepsReader) (form : PointForm) (columns : ColumnsDue) → r.texts.due ≡ 0
-    → ((b : Bounds) (cs : List Column) (ts : List Token) → columns_left b cs columns ts ≡ columns_at b cs ts)
+    → ((b : HeadBounds) (cs : List Column) (ts : List Token) → columns_left b cs columns ts ≡ columns_at b cs ts)
     → (ts : List Token) → then_points r (numbers_then form r.texts.texts (columns_left r.bounds (point_columns form) columns ts)) ≡ at_stage (stages.Texts form) r ts
 texts_past r form columns none left ts = rw (left r.bounds (point_columns form) ts, none) refl
 

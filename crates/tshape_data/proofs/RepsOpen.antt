@@ -8,9 +8,9 @@ use Rattle.tshape_data.specs.EdgesLeft as edges
 use Rattle.tshape_data.specs.PointsLeft.{points_left}
 use Rattle.tshape_data.specs.PointsLeft as points
 use Rattle.tshape_data.specs.RepReading.{column_at, columns_from, edge_form_at, edge_rep_at, param_at, point_rep_at, reps_from}
-use Rattle.tshape_data.specs.declared.bounds.Bounds.{Bounds}
+use Rattle.tshape_data.specs.declared.head_bounds.HeadBounds.{HeadBounds}
 use Rattle.tshape_data.specs.declared.columns.Column.{Column}
-use Rattle.tshape_data.specs.declared.columns.Column.TheVariants.{Entry, Place, Continuity}
+use Rattle.tshape_data.specs.declared.columns.Column.TheVariants.{Entry, Location, Continuity}
 use Rattle.tshape_data.specs.declared.edge_reps_reader.EdgeRepsReader.{EdgeRepsReader}
 use Rattle.tshape_data.specs.declared.edge_reps_reader.EdgeStage.{EdgeStage}
 use Rattle.tshape_data.specs.declared.edge_reps_reader.EdgeStage.TheVariants as edge_stages
@@ -24,17 +24,17 @@ pub no_texts : (texts : List (List ℕ)) (n : ℕ) → 0 < n → decimals_from t
 no_texts texts zero lt = absurd (omega (arith, lt))
 no_texts texts (suc n) lt = refl
 
-no_column : (b : Bounds) (c : Column) → column_at b c [] ≡ Err more
+no_column : (b : HeadBounds) (c : Column) → column_at b c [] ≡ Err more
 no_column b (Entry table) = refl
-no_column b Place = refl
+no_column b Location = refl
 no_column b Continuity = refl
 
-pub no_number : (b : Bounds) (ns : List ℕ) (cs : List Column) (n : ℕ) → n < length cs → columns_from b ns (drop n cs) [] ≡ Err more
+pub no_number : (b : HeadBounds) (ns : List ℕ) (cs : List Column) (n : ℕ) → n < length cs → columns_from b ns (drop n cs) [] ≡ Err more
 no_number b ns [] n lt = absurd (omega (arith, lt))
 no_number b ns (c ∷ cs) zero lt = rw (no_column b c) refl
 no_number b ns (c ∷ cs) (suc n) lt = no_number b ns cs n (omega (arith, lt))
 
-pub no_edge : (b : Bounds) (version room : ℕ) (reps : List EdgeRep) → reps_from edge_form_at (edge_rep_at b version) room reps [] ≡ Err more
+pub no_edge : (b : HeadBounds) (version room : ℕ) (reps : List EdgeRep) → reps_from edge_form_at (edge_rep_at b version) room reps [] ≡ Err more
 no_edge b version zero reps = refl
 no_edge b version (suc room) reps = refl
 
@@ -47,7 +47,7 @@ edge_open edge_stages.Whole r due = absurd due
 pub edges_open : (r : EdgeRepsReader) → edges.IsWaiting r → edges_left r [] ≡ Err more
 edges_open r due = edge_open r.stage r due
 
-pub no_point : (b : Bounds) (room : ℕ) (reps : List PointRep) → reps_from param_at (point_rep_at b) room reps [] ≡ Err more
+pub no_point : (b : HeadBounds) (room : ℕ) (reps : List PointRep) → reps_from param_at (point_rep_at b) room reps [] ≡ Err more
 no_point b zero reps = refl
 no_point b (suc room) reps = refl
 

@@ -8,12 +8,12 @@ use Rattle.tshape_data.specs.Columns.{edge_columns, edge_texts, point_columns, p
 use Rattle.tshape_data.specs.Flags.{spell_flags}
 use Rattle.tshape_data.specs.Laws.{HeadsCanBeSpelled}
 use Rattle.tshape_data.specs.Parts.{edge_flags, texts_in}
-use Rattle.tshape_data.specs.Places.{moved_edge_rep, moved_payload, moved_point}
+use Rattle.tshape_data.specs.Locations.{renumbered_edge_rep, renumbered_payload, renumbered_point}
 use Rattle.tshape_data.specs.Reps.{form_of_edge, form_of_point, numbers_of_edge, numbers_of_point, texts_of_edge, texts_of_point}
 use Rattle.tshape_data.specs.Short.{IsShortEdgeRep, IsShortPayload, IsShortPoint}
 use Rattle.tshape_data.specs.Sound.{IsSoundEdge, IsSoundEdgeRep, IsSoundFace, IsSoundVertex}
 use Rattle.tshape_data.specs.Spelling.{spell_payload}
-use Rattle.tshape_data.specs.declared.bounds.Bounds.{Bounds}
+use Rattle.tshape_data.specs.declared.head_bounds.HeadBounds.{HeadBounds}
 use Rattle.tshape_data.specs.declared.reps.PointRep.{PointRep}
 use Rattle.tshape_data.specs.declared.reps.PointRep.TheVariants as point_reps
 use Rattle.tshape_data.specs.declared.reps.EdgeRep.{EdgeRep}
@@ -25,7 +25,7 @@ use Rattle.tshape_data.specs.declared.head.Payload.{Payload}
 use Rattle.tshape_data.specs.declared.head.Payload.TheVariants.{Vertex, Edge, Face, Nothing}
 use Rattle.tshape_data.proofs.ColumnLaws.{number_texts}
 use Rattle.tshape_data.proofs.PayloadTexts.{edge_end, edge_rep_spelled, edge_rep_texts, edge_reps_texts, edge_spelled, face_spelled, mesh_texts, point_rep_spelled, point_rep_texts, vertex_end, vertex_spelled}
-use Rattle.tshape_data.proofs.PlaceLaws.{by_payload}
+use Rattle.tshape_data.proofs.LocationLaws.{by_payload}
 
 short_join : (xs ys : List (List ℕ)) → AreShort xs → AreShort ys → AreShort (xs ++ ys)
 short_join [] ys a b = b
@@ -51,7 +51,7 @@ point_short p short =
     let second = short_left (drop 1 texts) (number_texts (point_columns (form_of_point p)) (numbers_of_point p)) others.1 in
     subst AreShort (take-append-drop 1 texts) (short_join (take 1 texts) (drop 1 texts) first second)
 
-edge_rep_short : (b : Bounds) (version : ℕ) (r : EdgeRep) → IsSoundEdgeRep b version r → AreShort (edge_rep_texts version r) → IsShortEdgeRep r
+edge_rep_short : (b : HeadBounds) (version : ℕ) (r : EdgeRep) → IsSoundEdgeRep b version r → AreShort (edge_rep_texts version r) → IsShortEdgeRep r
 edge_rep_short b version r is short =
     let all = subst AreShort (edge_rep_spelled version r) short in
     let texts = short_right (number_texts (edge_columns (form_of_edge r)) (numbers_of_edge r)) (texts_in version r) all.1 in
@@ -64,7 +64,7 @@ each_short texts_of Sound Short one (x ∷ xs) all short =
 
 -- ---- data
 
-module _ (b : Bounds) (version : ℕ) where
+module _ (b : HeadBounds) (version : ℕ) where
   abbrev Can : Payload → Type 0
   Can p = AreShort (spell_payload version p) → IsShortPayload p
 
@@ -91,13 +91,13 @@ module _ (b : Bounds) (version : ℕ) where
 
 -- ---- with other locations
 
-module _ (move : ℕ → ℕ) where
-  point_stays : (p : PointRep) → IsShortPoint p → IsShortPoint (moved_point move p)
+module _ (renumber : ℕ → ℕ) where
+  point_stays : (p : PointRep) → IsShortPoint p → IsShortPoint (renumbered_point renumber p)
   point_stays (point_reps.OnCurve texts curve location) is = is
   point_stays (point_reps.OnCurve2 texts curve2 surface location) is = is
   point_stays (point_reps.OnSurface texts surface location) is = is
 
-  edge_rep_stays : (r : EdgeRep) → IsShortEdgeRep r → IsShortEdgeRep (moved_edge_rep move r)
+  edge_rep_stays : (r : EdgeRep) → IsShortEdgeRep r → IsShortEdgeRep (renumbered_edge_rep renumber r)
   edge_rep_stays (edge_reps.Curve curve location texts) is = is
   edge_rep_stays (edge_reps.Curve2 curve2 surface location texts) is = is
   edge_rep_stays (edge_reps.Seam first second continuity surface location texts) is = is
@@ -110,9 +110,9 @@ module _ (move : ℕ → ℕ) where
   each_stays P f one [] all = tt
   each_stays P f one (x ∷ xs) all = (one x all.0, each_stays P f one xs all.1)
 
-  payload_stays : (p : Payload) → IsShortPayload p → IsShortPayload (moved_payload move p)
-  payload_stays (Vertex d) is = (is.0, each_stays IsShortPoint (moved_point move) point_stays d.points is.1)
-  payload_stays (Edge d) is = (is.0, each_stays IsShortEdgeRep (moved_edge_rep move) edge_rep_stays d.reps is.1)
+  payload_stays : (p : Payload) → IsShortPayload p → IsShortPayload (renumbered_payload renumber p)
+  payload_stays (Vertex d) is = (is.0, each_stays IsShortPoint (renumbered_point renumber) point_stays d.points is.1)
+  payload_stays (Edge d) is = (is.0, each_stays IsShortEdgeRep (renumbered_edge_rep renumber) edge_rep_stays d.reps is.1)
   payload_stays (Face d) is = is
   payload_stays Nothing is = tt
 
@@ -121,5 +121,5 @@ heads_can_be_spelled = record {
   sound = λ b version h is short. (
       let payload = short_left (spell_payload version h.payload) (spell_flags h.flags ∷ []) short.1 in
       by_payload b version (Can b version) (vertex_can b version) (edge_can b version) (face_can b version) (λ _. tt) h.kind h.payload is payload);
-  moved = λ move p is. payload_stays move p is;
+  renumbered = λ renumber p is. payload_stays renumber p is;
 }

@@ -19,7 +19,7 @@ use Rattle.tshape_data.specs.Parts.{edge_flags}
 use Rattle.tshape_data.specs.RepReading.{edge_form_at, edge_rep_at, edge_reps_at, param_at, point_rep_at, points_at}
 use Rattle.tshape_data.specs.Sound.{IsSoundEdge, IsSoundEdgeRep, IsSoundHead, IsSoundPayload, IsSoundPoint, IsSoundVertex, rep_count, sizes}
 use Rattle.tshape_data.specs.Spelling.{spell_head, spell_payload}
-use Rattle.tshape_data.specs.declared.bounds.Bounds.{Bounds}
+use Rattle.tshape_data.specs.declared.head_bounds.HeadBounds.{HeadBounds}
 use Rattle.tshape_data.specs.declared.head.EdgeData.{EdgeData}
 use Rattle.tshape_data.specs.declared.head.Flags.{Flags}
 use Rattle.tshape_data.specs.declared.head.Head.{Head}
@@ -44,7 +44,7 @@ flags_not_two (t ∷ ts) rest f b = rw b.0 (not_two f.free (flag_code f.modified
 
 -- ---- reading where there is room for any number of representations
 
-module _ (forms : FormsAreExact) (fields : FieldsAreExact) (tell : SignsAndNamesTell) (b : Bounds) (version room : ℕ) where
+module _ (forms : FormsAreExact) (fields : FieldsAreExact) (tell : SignsAndNamesTell) (b : HeadBounds) (version room : ℕ) where
   abbrev done : Payload × List Token → Read Payload
   done x = Ok x
 

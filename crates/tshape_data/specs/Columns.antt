@@ -2,7 +2,7 @@
 use Rattle.std.specs.Prelude.{ℕ, ◌==◌, if◌then◌else◌, List, [], ◌∷◌, Option, Some, None}
 use Rattle.tshape_data.specs.declared.columns.Table.TheVariants.{Curve2s, Curves, Polygons, PolygonsOn, Surfaces, Meshes}
 use Rattle.tshape_data.specs.declared.columns.Column.{Column}
-use Rattle.tshape_data.specs.declared.columns.Column.TheVariants.{Entry, Place, Continuity}
+use Rattle.tshape_data.specs.declared.columns.Column.TheVariants.{Entry, Location, Continuity}
 use Rattle.tshape_data.specs.declared.forms.PointForm.{PointForm}
 use Rattle.tshape_data.specs.declared.forms.PointForm.TheVariants as points
 use Rattle.tshape_data.specs.declared.forms.EdgeForm.{EdgeForm}
@@ -19,9 +19,9 @@ abbrev pub point_form : ℕ → Option PointForm
 point_form n = if n == 1 then Some points.OnCurve else (if n == 2 then Some points.OnCurve2 else (if n == 3 then Some points.OnSurface else None))
 
 abbrev pub point_columns : PointForm → List Column
-point_columns points.OnCurve = Entry Curves ∷ Place ∷ []
-point_columns points.OnCurve2 = Entry Curve2s ∷ Entry Surfaces ∷ Place ∷ []
-point_columns points.OnSurface = Entry Surfaces ∷ Place ∷ []
+point_columns points.OnCurve = Entry Curves ∷ Location ∷ []
+point_columns points.OnCurve2 = Entry Curve2s ∷ Entry Surfaces ∷ Location ∷ []
+point_columns points.OnSurface = Entry Surfaces ∷ Location ∷ []
 
 -- how many parameters stand after the form's number
 abbrev pub second_texts : PointForm → ℕ
@@ -52,13 +52,13 @@ edge_form n =
     else None))))))
 
 abbrev pub edge_columns : EdgeForm → List Column
-edge_columns edges.Curve = Entry Curves ∷ Place ∷ []
-edge_columns edges.Curve2 = Entry Curve2s ∷ Entry Surfaces ∷ Place ∷ []
-edge_columns edges.Seam = Entry Curve2s ∷ Entry Curve2s ∷ Continuity ∷ Entry Surfaces ∷ Place ∷ []
-edge_columns edges.Joint = Continuity ∷ Entry Surfaces ∷ Place ∷ Entry Surfaces ∷ Place ∷ []
-edge_columns edges.Polygon = Entry Polygons ∷ Place ∷ []
-edge_columns edges.PolygonOn = Entry PolygonsOn ∷ Entry Meshes ∷ Place ∷ []
-edge_columns edges.SeamPolygons = Entry PolygonsOn ∷ Entry PolygonsOn ∷ Entry Meshes ∷ Place ∷ []
+edge_columns edges.Curve = Entry Curves ∷ Location ∷ []
+edge_columns edges.Curve2 = Entry Curve2s ∷ Entry Surfaces ∷ Location ∷ []
+edge_columns edges.Seam = Entry Curve2s ∷ Entry Curve2s ∷ Continuity ∷ Entry Surfaces ∷ Location ∷ []
+edge_columns edges.Joint = Continuity ∷ Entry Surfaces ∷ Location ∷ Entry Surfaces ∷ Location ∷ []
+edge_columns edges.Polygon = Entry Polygons ∷ Location ∷ []
+edge_columns edges.PolygonOn = Entry PolygonsOn ∷ Entry Meshes ∷ Location ∷ []
+edge_columns edges.SeamPolygons = Entry PolygonsOn ∷ Entry PolygonsOn ∷ Entry Meshes ∷ Location ∷ []
 
 -- the first and the last parameter of a p-curve, and in version 2 its first and its last UV point
 abbrev pub p_curve_texts : ℕ → ℕ

@@ -3,15 +3,15 @@ use Rattle.std.specs.Prelude.{ℕ, ◌≡◌, ◌<◌, ◌≤◌, List, [], ◌�
 use Rattle.brep_tokens.specs.declared.text.Token.{Token}
 use Rattle.entry_readers.specs.Reading.{Read}
 use Rattle.tshape_data.specs.RepReading.{columns_from}
-use Rattle.tshape_data.specs.declared.bounds.Bounds.{Bounds}
+use Rattle.tshape_data.specs.declared.head_bounds.HeadBounds.{HeadBounds}
 use Rattle.tshape_data.specs.declared.columns.Column.{Column}
-use Rattle.tshape_data.specs.declared.columns.Column.TheVariants.{Entry, Place, Continuity}
+use Rattle.tshape_data.specs.declared.columns.Column.TheVariants.{Entry, Location, Continuity}
 use Rattle.tshape_data.specs.declared.columns_due.ColumnsDue.{ColumnsDue}
 
 -- the place of a continuity word is a byte
 abbrev pub FitsColumn : Column → ℕ → Type 0
 FitsColumn (Entry table) n = Unit {0}
-FitsColumn Place n = Unit {0}
+FitsColumn Location n = Unit {0}
 FitsColumn Continuity n = n < 256
 
 -- each number that was read fits its column
@@ -25,7 +25,7 @@ abbrev pub numbers_of : ColumnsDue → List ℕ
 numbers_of r = take r.len r.numbers
 
 -- What is left to read of the numbers for these columns.
-abbrev pub columns_left : Bounds → List Column → ColumnsDue → List Token → Read (List ℕ)
+abbrev pub columns_left : HeadBounds → List Column → ColumnsDue → List Token → Read (List ℕ)
 columns_left b cs r ts = columns_from b (numbers_of r) (drop r.len cs) ts
 
 -- a number is due, and there is room for it

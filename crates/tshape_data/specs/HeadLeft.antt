@@ -13,7 +13,7 @@ use Rattle.tshape_data.specs.HeadReading.{edge_at, face_at, flagged_at, head_at,
 use Rattle.tshape_data.specs.PointsLeft as points
 use Rattle.tshape_data.specs.PointsLeft.{points_left}
 use Rattle.tshape_data.specs.RepReading.{edge_reps_at, points_at}
-use Rattle.tshape_data.specs.declared.bounds.Bounds.{Bounds}
+use Rattle.tshape_data.specs.declared.head_bounds.HeadBounds.{HeadBounds}
 use Rattle.tshape_data.specs.declared.head.Head.{Head}
 use Rattle.tshape_data.specs.declared.head.Payload.{Payload}
 use Rattle.tshape_data.specs.declared.head.Payload.TheVariants.{Vertex, Edge, Face, Nothing}
@@ -46,7 +46,7 @@ abbrev pub reps_then : List (List ℕ) → Bool → Bool → Bool → Read (List
 reps_then tolerance same_parameter same_range degenerated read =
     read >>= λ reps. Ok (Edge (record { tolerance = tolerance; same_parameter = same_parameter; same_range = same_range; degenerated = degenerated; reps = reps.0 }), reps.1)
 
-module _ (b : Bounds) (version : ℕ) (tolerance : List (List ℕ)) where
+module _ (b : HeadBounds) (version : ℕ) (tolerance : List (List ℕ)) where
   abbrev pub from_degenerated : Bool → Bool → List Token → Read Payload
   from_degenerated same_parameter same_range ts = do
     degenerated ← flag_at ts
@@ -69,22 +69,22 @@ module _ (natural : Bool) (tolerance : List (List ℕ)) where
   mesh_then surface location read =
       read >>= λ mesh. Ok (Face (record { natural = natural; tolerance = tolerance; surface = surface; location = location; mesh = mesh.0 }), mesh.1)
 
-  abbrev pub from_location : Bounds → ℕ → List Token → Read Payload
+  abbrev pub from_location : HeadBounds → ℕ → List Token → Read Payload
   from_location b surface ts = do
     location ← ranged_at 0 b.locations ts
     mesh_then surface location.0 (mesh_at b location.1)
 
-  abbrev pub from_surface : Bounds → List Token → Read Payload
+  abbrev pub from_surface : HeadBounds → List Token → Read Payload
   from_surface b ts = do
     surface ← ranged_at 0 b.surfaces ts
     from_location b surface.0 surface.1
 
-abbrev pub from_tolerance : Bounds → Bool → List Token → Read Payload
+abbrev pub from_tolerance : HeadBounds → Bool → List Token → Read Payload
 from_tolerance b natural ts = do
   tolerance ← decimals_at 1 ts
   from_surface natural tolerance.0 b tolerance.1
 
-abbrev pub mesh_number : Bounds → List Token → Read (Option ℕ)
+abbrev pub mesh_number : HeadBounds → List Token → Read (Option ℕ)
 mesh_number b ts = do
   mesh ← ranged_at 1 b.meshes ts
   Ok (Some mesh.0, mesh.1)

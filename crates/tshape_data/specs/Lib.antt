@@ -7,7 +7,7 @@ pub mod Parts
 pub mod Spelling
 pub mod Lines
 pub mod Sound
-pub mod Places
+pub mod Locations
 pub mod Laws
 pub mod ColumnsLeft
 pub mod RepsLeft

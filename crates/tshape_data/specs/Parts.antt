@@ -8,7 +8,7 @@ use Rattle.tshape_data.specs.Reps.{form_of_edge, form_of_point, numbers_of_edge,
 use Rattle.tshape_data.specs.declared.columns.Table.{Table}
 use Rattle.tshape_data.specs.declared.columns.Table.TheVariants.{Surfaces, Meshes}
 use Rattle.tshape_data.specs.declared.columns.Column.{Column}
-use Rattle.tshape_data.specs.declared.columns.Column.TheVariants.{Entry, Place, Continuity}
+use Rattle.tshape_data.specs.declared.columns.Column.TheVariants.{Entry, Location, Continuity}
 use Rattle.tshape_data.specs.declared.reps.PointRep.{PointRep}
 use Rattle.tshape_data.specs.declared.reps.EdgeRep.{EdgeRep}
 use Rattle.tshape_data.specs.declared.head.VertexData.{VertexData}
@@ -23,7 +23,7 @@ pub data Part : Type 0 where
   -- an entry of a table, by its number; 0 is none
   entry : Table → ℕ → Part
   -- a location, by its number
-  place : ℕ → Part
+  located : ℕ → Part
 
 abbrev pub tokens : List (List ℕ) → List Part
 tokens texts = map token texts
@@ -33,7 +33,7 @@ continuity_text n = slice_index_or continuity_words n []
 
 abbrev pub column_part : Column → ℕ → Part
 column_part (Entry table) n = entry table n
-column_part Place n = place n
+column_part Location n = located n
 column_part Continuity n = token (continuity_text n)
 
 -- a part for each number, by its column
@@ -74,7 +74,7 @@ mesh_parts None = []
 mesh_parts (Some mesh) = token (codes "2") ∷ entry Meshes mesh ∷ []
 
 abbrev pub face_parts : FaceData → List Part
-face_parts d = token (flag_text d.natural) ∷ (tokens d.tolerance ++ (entry Surfaces d.surface ∷ place d.location ∷ mesh_parts d.mesh))
+face_parts d = token (flag_text d.natural) ∷ (tokens d.tolerance ++ (entry Surfaces d.surface ∷ located d.location ∷ mesh_parts d.mesh))
 
 -- The data of a record in a file of a version.
 abbrev pub payload_parts : ℕ → Payload → List Part

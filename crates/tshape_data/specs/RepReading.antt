@@ -8,11 +8,11 @@ use Rattle.brep_tokens.specs.declared.fault.ReadCode.TheVariants as faults
 use Rattle.entry_readers.specs.Reading.{Read, Refusal, fault, more, ◌>>=◌, at_token, spelled, decimal_at, decimals_at, decimals_from, number_at, ranged_at}
 use Rattle.tshape_data.specs.Columns.{edge_columns, edge_form, edge_texts, point_columns, point_form, second_texts}
 use Rattle.tshape_data.specs.Reps.{edge_rep, point_rep}
-use Rattle.tshape_data.specs.declared.bounds.Bounds.{Bounds}
+use Rattle.tshape_data.specs.declared.head_bounds.HeadBounds.{HeadBounds}
 use Rattle.tshape_data.specs.declared.columns.Table.{Table}
 use Rattle.tshape_data.specs.declared.columns.Table.TheVariants.{Curve2s, Curves, Polygons, PolygonsOn, Surfaces, Meshes}
 use Rattle.tshape_data.specs.declared.columns.Column.{Column}
-use Rattle.tshape_data.specs.declared.columns.Column.TheVariants.{Entry, Place, Continuity}
+use Rattle.tshape_data.specs.declared.columns.Column.TheVariants.{Entry, Location, Continuity}
 use Rattle.tshape_data.specs.declared.forms.PointForm.{PointForm}
 use Rattle.tshape_data.specs.declared.forms.EdgeForm.{EdgeForm}
 use Rattle.tshape_data.specs.declared.reps.PointRep.{PointRep}
@@ -24,7 +24,7 @@ most_reps = 8388608
 
 -- ---- numbers
 
-abbrev pub size_of : Bounds → Table → ℕ
+abbrev pub size_of : HeadBounds → Table → ℕ
 size_of b Curve2s = b.curve2s
 size_of b Curves = b.curves
 size_of b Polygons = b.polygons
@@ -37,17 +37,17 @@ abbrev pub continuity_at : List Token → Read ℕ
 continuity_at [] = Err more
 continuity_at (t ∷ ts) = spelled faults.WordExpected t ts (continuity_of t.text)
 
-abbrev pub column_at : Bounds → Column → List Token → Read ℕ
+abbrev pub column_at : HeadBounds → Column → List Token → Read ℕ
 column_at b (Entry table) ts = ranged_at 1 (size_of b table) ts
-column_at b Place ts = ranged_at 0 b.locations ts
+column_at b Location ts = ranged_at 0 b.locations ts
 column_at b Continuity ts = continuity_at ts
 
 -- a number for each of these columns, after those that were read
-abbrev pub columns_from : Bounds → List ℕ → List Column → List Token → Read (List ℕ)
+abbrev pub columns_from : HeadBounds → List ℕ → List Column → List Token → Read (List ℕ)
 columns_from b ns [] ts = Ok (ns, ts)
 columns_from b ns (c ∷ cs) ts = column_at b c ts >>= λ n. columns_from b (ns ++ n.0 ∷ []) cs n.1
 
-abbrev pub columns_at : Bounds → List Column → List Token → Read (List ℕ)
+abbrev pub columns_at : HeadBounds → List Column → List Token → Read (List ℕ)
 columns_at b cs ts = columns_from b [] cs ts
 
 -- ---- the number of a form, where there is room for so many representations more
@@ -84,13 +84,13 @@ param_at room ts = decimal_at ts >>= λ param. point_form_at param.0 room param.
 
 -- ---- the rest of a representation
 
-abbrev pub edge_rep_at : Bounds → ℕ → EdgeForm → List Token → Read EdgeRep
+abbrev pub edge_rep_at : HeadBounds → ℕ → EdgeForm → List Token → Read EdgeRep
 edge_rep_at b version form ts = do
   numbers ← columns_at b (edge_columns form) ts
   texts ← decimals_at (edge_texts version form) numbers.1
   Ok (edge_rep form numbers.0 texts.0, texts.1)
 
-abbrev pub point_rep_at : Bounds → List ℕ × PointForm → List Token → Read PointRep
+abbrev pub point_rep_at : HeadBounds → List ℕ × PointForm → List Token → Read PointRep
 point_rep_at b p ts = do
   texts ← decimals_from (p.0 ∷ []) (second_texts p.1) ts
   numbers ← columns_at b (point_columns p.1) texts.1
@@ -106,8 +106,8 @@ module _ {F A : Type 0} (form_at : ℕ → List Token → Read (Option F)) (rep_
   reps_from (suc room) reps ts = form_at (suc room) ts >>= λ form.
       option_map_or (λ f. rep_at f form.1 >>= λ r. reps_from room (reps ++ r.0 ∷ []) r.1) form.0 (Ok (reps, form.1))
 
-abbrev pub points_at : Bounds → ℕ → List Token → Read (List PointRep)
+abbrev pub points_at : HeadBounds → ℕ → List Token → Read (List PointRep)
 points_at b room ts = reps_from param_at (point_rep_at b) room [] ts
 
-abbrev pub edge_reps_at : Bounds → ℕ → ℕ → List Token → Read (List EdgeRep)
+abbrev pub edge_reps_at : HeadBounds → ℕ → ℕ → List Token → Read (List EdgeRep)
 edge_reps_at b version room ts = reps_from edge_form_at (edge_rep_at b version) room [] ts

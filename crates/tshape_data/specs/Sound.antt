@@ -7,9 +7,9 @@ use Rattle.orientation.specs.declared.kind.Kind.TheVariants.{Ve, Ed, Wi, Fa, Sh,
 use Rattle.tshape_data.specs.Columns.{edge_columns, edge_texts, point_columns, second_texts}
 use Rattle.tshape_data.specs.RepReading.{most_reps, size_of}
 use Rattle.tshape_data.specs.Reps.{form_of_edge, form_of_point, numbers_of_edge, numbers_of_point, texts_of_edge, texts_of_point}
-use Rattle.tshape_data.specs.declared.bounds.Bounds.{Bounds}
+use Rattle.tshape_data.specs.declared.head_bounds.HeadBounds.{HeadBounds}
 use Rattle.tshape_data.specs.declared.columns.Column.{Column}
-use Rattle.tshape_data.specs.declared.columns.Column.TheVariants.{Entry, Place, Continuity}
+use Rattle.tshape_data.specs.declared.columns.Column.TheVariants.{Entry, Location, Continuity}
 use Rattle.tshape_data.specs.declared.reps.PointRep.{PointRep}
 use Rattle.tshape_data.specs.declared.reps.EdgeRep.{EdgeRep}
 use Rattle.tshape_data.specs.declared.head.VertexData.{VertexData}
@@ -21,10 +21,10 @@ use Rattle.tshape_data.specs.declared.head.Head.{Head}
 
 -- ---- numbers within bounds: those of entries from 1, those of locations from 0, and the place of a continuity word
 
-module _ (b : Bounds) where
+module _ (b : HeadBounds) where
   abbrev pub IsInColumn : Column → ℕ → Type 0
   IsInColumn (Entry table) n = IsRanged 1 (size_of b table) n
-  IsInColumn Place n = IsRanged 0 b.locations n
+  IsInColumn Location n = IsRanged 0 b.locations n
   IsInColumn Continuity n = n < 7
 
   -- one number for each column
@@ -87,10 +87,10 @@ rep_count (Face d) = 0
 rep_count Nothing = 0
 
 -- the sizes of the tables alone
-abbrev pub sizes : Bounds → Bounds
+abbrev pub sizes : HeadBounds → HeadBounds
 sizes b = record b { reps = 0 }
 
 -- The head is sound, and with those before it there aren't too many representations.
-pub record Fits (b : Bounds) (version : ℕ) (h : Head) : Type 0 where
+pub record Fits (b : HeadBounds) (version : ℕ) (h : Head) : Type 0 where
   pub sound : IsSoundHead (sizes b) version h
   pub few : b.reps + rep_count h.payload ≤ most_reps

@@ -18,8 +18,8 @@ use Rattle.tshape_data.specs.declared.spell.HeadSpell.{HeadSpell}
 use Rattle.tshape_data.specs.declared.spell.Stage.{Stage}
 use Rattle.tshape_data.specs.declared.spell.Stage.TheVariants as stages
 use Rattle.tshape_data.specs.declared.chunks.ChunkSpell.{ChunkSpell}
-use Rattle.tshape_data.specs.declared.words.Word.{Word}
-use Rattle.tshape_data.specs.declared.words.Word.TheVariants as words
+use Rattle.tshape_data.specs.declared.head_words.Word.{Word}
+use Rattle.tshape_data.specs.declared.head_words.Word.TheVariants as words
 use Rattle.tshape_data.specs.declared.word_lists.Words.{Words}
 use Rattle.tshape_data.specs.declared.word_lists.WordsSpell.{WordsSpell}
 use Rattle.tshape_data.specs.declared.ranges.RangeSpell.{RangeSpell}

@@ -16,6 +16,6 @@ pub enum Table {
 #[derive(Clone, Copy, Debug, PartialEq, Eq)]
 pub enum Column {
     Entry(Table),
-    Place,
+    Location,
     Continuity,
 }

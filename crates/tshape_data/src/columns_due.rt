@@ -4,15 +4,15 @@ ghost use Rattle.entry_readers.specs.Takes.{StepsOn};
 ghost use Rattle.tshape_data.specs.Columns.{edge_columns as columns_of_edge, point_columns as columns_of_point};
 ghost use Rattle.tshape_data.specs.ColumnsLeft.{FitColumns, IsNumberDue, columns_left, numbers_of};
 ghost use Rattle.tshape_data.specs.RepReading.{columns_at};
-ghost use Rattle.tshape_data.specs.declared.bounds.Bounds.{Bounds};
+ghost use Rattle.tshape_data.specs.declared.head_bounds.HeadBounds.{HeadBounds};
 ghost use Rattle.tshape_data.specs.declared.columns.Column.{Column};
 ghost use Rattle.brep_tokens.specs.declared.text.Token.{Token};
 
-use crate::bounds::Bounds;
-use crate::columns::Column::{self, Continuity, Entry, Place};
+use crate::columns::Column::{self, Continuity, Entry, Location};
 use crate::columns::Table::{Curve2s, Curves, Meshes, Polygons, PolygonsOn, Surfaces};
 use crate::due::column_due;
 use crate::forms::{EdgeForm, PointForm};
+use crate::head_bounds::HeadBounds;
 use brep_tokens::{ReadStop, Token};
 
 /// What the numbers of a vertex's representation are.
@@ -21,9 +21,9 @@ pub fn point_columns(form: PointForm) -> &'static [Column]
     ensures few { length result.now ≤ 5 }
 {
     match form {
-        PointForm::OnCurve => &[Entry(Curves), Place],
-        PointForm::OnCurve2 => &[Entry(Curve2s), Entry(Surfaces), Place],
-        PointForm::OnSurface => &[Entry(Surfaces), Place],
+        PointForm::OnCurve => &[Entry(Curves), Location],
+        PointForm::OnCurve2 => &[Entry(Curve2s), Entry(Surfaces), Location],
+        PointForm::OnSurface => &[Entry(Surfaces), Location],
     }
 }
 
@@ -33,19 +33,30 @@ pub fn edge_columns(form: EdgeForm) -> &'static [Column]
     ensures few { length result.now ≤ 5 }
 {
     match form {
-        EdgeForm::Curve => &[Entry(Curves), Place],
-        EdgeForm::Curve2 => &[Entry(Curve2s), Entry(Surfaces), Place],
+        EdgeForm::Curve => &[Entry(Curves), Location],
+        EdgeForm::Curve2 => &[Entry(Curve2s), Entry(Surfaces), Location],
         EdgeForm::Seam => &[
             Entry(Curve2s),
             Entry(Curve2s),
             Continuity,
             Entry(Surfaces),
-            Place,
+            Location,
         ],
-        EdgeForm::Joint => &[Continuity, Entry(Surfaces), Place, Entry(Surfaces), Place],
-        EdgeForm::Polygon => &[Entry(Polygons), Place],
-        EdgeForm::PolygonOn => &[Entry(PolygonsOn), Entry(Meshes), Place],
-        EdgeForm::SeamPolygons => &[Entry(PolygonsOn), Entry(PolygonsOn), Entry(Meshes), Place],
+        EdgeForm::Joint => &[
+            Continuity,
+            Entry(Surfaces),
+            Location,
+            Entry(Surfaces),
+            Location,
+        ],
+        EdgeForm::Polygon => &[Entry(Polygons), Location],
+        EdgeForm::PolygonOn => &[Entry(PolygonsOn), Entry(Meshes), Location],
+        EdgeForm::SeamPolygons => &[
+            Entry(PolygonsOn),
+            Entry(PolygonsOn),
+            Entry(Meshes),
+            Location,
+        ],
     }
 }
 
@@ -59,7 +70,7 @@ pub struct ColumnsDue {
 impl ColumnsDue {
     /// None was taken yet.
     pub fn new() -> ColumnsDue
-        ensures left { (b : Bounds) (cs : List Column) (ts : List Token) → columns_left b cs result ts ≡ columns_at b cs ts }
+        ensures left { (b : HeadBounds) (cs : List Column) (ts : List Token) → columns_left b cs result ts ≡ columns_at b cs ts }
         ensures len { result.len ≡ 0 }
         ensures numbers { numbers_of result ≡ [] }
     {
@@ -70,7 +81,12 @@ impl ColumnsDue {
     }
 
     /// Takes the next one for these columns.
-    pub fn take(&mut self, columns: &[Column], bounds: &Bounds, t: &Token) -> Result<(), ReadStop>
+    pub fn take(
+        &mut self,
+        columns: &[Column],
+        bounds: &HeadBounds,
+        t: &Token,
+    ) -> Result<(), ReadStop>
         requires { IsNumberDue columns.now self.old }
         ensures step { StepsOn (columns_left bounds.now columns.now self.old) t.now (columns_left bounds.now columns.now self.new) result }
         ensures len { OnOk result (self.new.len ≡ self.old.len + 1) }

@@ -8,9 +8,9 @@ ghost use Rattle.tshape_data.specs.HeadReading.{flags_at, kind_at};
 ghost use Rattle.tshape_data.specs.ColumnsLeft.{FitsColumn};
 ghost use Rattle.tshape_data.specs.RepReading.{column_at, continuity_at, size_of};
 
-use crate::bounds::Bounds;
 use crate::columns::{Column, Table};
 use crate::head::Flags;
+use crate::head_bounds::HeadBounds;
 use brep_tokens::{ReadCode, ReadFault, Token, continuity};
 use entry_readers::{fault_at, ranged_due};
 use orientation::{Kind, kind_of_name};
@@ -83,7 +83,7 @@ fn continuity_due(t: &Token) -> Result<u8, ReadFault>
 }
 
 /// How many entries a table has.
-fn size_of(bounds: &Bounds, table: Table) -> u32
+fn size_of(bounds: &HeadBounds, table: Table) -> u32
     ensures { result ≡ size_of bounds.now table }
 {
     match table {
@@ -97,7 +97,7 @@ fn size_of(bounds: &Bounds, table: Table) -> u32
 }
 
 /// A number from `low` to `high` is due.
-pub fn place_due(low: u32, high: u32, t: &Token) -> Result<u32, ReadFault>
+pub fn index_due(low: u32, high: u32, t: &Token) -> Result<u32, ReadFault>
     ensures { Answers (ranged_at low high) t.now result }
 {
     match ranged_due(u64::from(low), u64::from(high), t) {
@@ -107,13 +107,13 @@ pub fn place_due(low: u32, high: u32, t: &Token) -> Result<u32, ReadFault>
 }
 
 /// A number of a representation is due.
-pub fn column_due(bounds: &Bounds, column: Column, t: &Token) -> Result<u32, ReadFault>
+pub fn column_due(bounds: &HeadBounds, column: Column, t: &Token) -> Result<u32, ReadFault>
     ensures answer { Answers (column_at bounds.now column) t.now result }
     ensures fits { IfOk result (λ n. FitsColumn column n) }
 {
     match column {
-        Column::Entry(table) => place_due(1, size_of(bounds, table), t),
-        Column::Place => place_due(0, bounds.locations, t),
+        Column::Entry(table) => index_due(1, size_of(bounds, table), t),
+        Column::Location => index_due(0, bounds.locations, t),
         Column::Continuity => match continuity_due(t) {
             Err(f) => Err(f),
             Ok(place) => Ok(u32::from(place)),

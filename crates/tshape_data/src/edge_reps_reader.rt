@@ -11,10 +11,10 @@ ghost use Rattle.tshape_data.specs.RepReading.{edge_reps_at};
 ghost use Rattle.tshape_data.specs.RepsLeft.{Settles};
 ghost use Rattle.tshape_data.specs.declared.edge_reps_reader.EdgeStage.TheVariants as stages;
 
-use crate::bounds::Bounds;
 use crate::columns_due::{ColumnsDue, edge_columns};
 use crate::form_due::edge_form_due;
 use crate::forms::EdgeForm;
+use crate::head_bounds::HeadBounds;
 use crate::rep_parts::{edge_rep, edge_texts};
 use crate::reps::EdgeReps;
 use brep_tokens::{Progress, ReadStop, Token};
@@ -37,7 +37,7 @@ pub enum EdgeStage {
 /// Takes the tokens of the representations of an edge up to their end.
 #[derive(Drop)]
 pub struct EdgeRepsReader {
-    pub bounds: Bounds,
+    pub bounds: HeadBounds,
     pub version: u8,
     /// How many representations more may come.
     pub room: u64,
@@ -51,7 +51,7 @@ pub struct EdgeRepsReader {
 impl EdgeRepsReader {
     /// No token was taken yet, and so many representations may come.
     #[tactic(auto, using(crate::proofs::RepsOpen::no_edge))]
-    pub fn new(alloc: Global, bounds: Bounds, version: u8, room: u64) -> EdgeRepsReader
+    pub fn new(alloc: Global, bounds: HeadBounds, version: u8, room: u64) -> EdgeRepsReader
         ensures left { (ts : List Token) → edges_left result ts ≡ edge_reps_at bounds version room ts }
         ensures waits { IsWaiting result }
         ensures open { edges_left result [] ≡ Err more }

@@ -4,7 +4,7 @@ ghost use Rattle.entry_readers.specs.Takes.{Takes};
 ghost use Rattle.tshape_data.specs.HeadLeft.{IsDone, IsWaiting, at_stage, head_left};
 ghost use Rattle.tshape_data.specs.declared.stage.Stage.TheVariants as stages;
 
-use crate::due::place_due;
+use crate::due::index_due;
 use crate::reader::{HeadReader, tolerance_due};
 use crate::stage::{Fields, Stage, Support};
 use brep_tokens::{Progress, ReadStop, Token};
@@ -45,7 +45,7 @@ impl HeadReader {
     pub(crate) fn take_surface(&mut self, t: &Token, natural: bool) -> Result<Progress, ReadStop>
         ensures { Takes (at_stage (stages.Surface natural) self.old) t.now (head_left self.new) (IsWaiting self.new) (IsDone self.new) result }
     {
-        match place_due(0, self.bounds.surfaces, t) {
+        match index_due(0, self.bounds.surfaces, t) {
             Err(f) => Err(ReadStop::Fault(f)),
             Ok(surface) => {
                 self.stage = Stage::Location { natural, surface };
@@ -62,7 +62,7 @@ impl HeadReader {
     ) -> Result<Progress, ReadStop>
         ensures { Takes (at_stage (stages.Location natural surface) self.old) t.now (head_left self.new) (IsWaiting self.new) (IsDone self.new) result }
     {
-        match place_due(0, self.bounds.locations, t) {
+        match index_due(0, self.bounds.locations, t) {
             Err(f) => Err(ReadStop::Fault(f)),
             Ok(location) => {
                 self.stage = Stage::Mesh {
@@ -101,7 +101,7 @@ impl HeadReader {
     ) -> Result<Progress, ReadStop>
         ensures { Takes (at_stage (stages.MeshNumber support) self.old) t.now (head_left self.new) (IsWaiting self.new) (IsDone self.new) result }
     {
-        match place_due(1, self.bounds.meshes, t) {
+        match index_due(1, self.bounds.meshes, t) {
             Err(f) => Err(ReadStop::Fault(f)),
             Ok(mesh) => {
                 self.stage = Stage::Flags {

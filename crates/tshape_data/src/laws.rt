@@ -1,5 +1,5 @@
 //! Laws of heads. Each function does nothing: its contract is the law.
-ghost use Rattle.tshape_data.specs.Laws.{HeadsAreExact, HeadsCanBeSpelled, HeadsTell, LinesAreExact, PlacesMove};
+ghost use Rattle.tshape_data.specs.Laws.{HeadsAreExact, HeadsCanBeSpelled, HeadsTell, LinesAreExact, RenumberingKeepsParts};
 
 use brep_tokens::laws::{forms_are_exact, written_is_read};
 use entry_readers::laws::fields_are_exact;
@@ -24,8 +24,8 @@ pub fn heads_tell()
 }
 
 /// The locations of a sound head are those of its file; with others in their stead it is sound, and the same but for them.
-pub fn places_move()
-    ensures { PlacesMove }
+pub fn renumbering_keeps_parts()
+    ensures { RenumberingKeepsParts }
 {}
 
 /// The lines of a sound head, split into tokens, are what it is spelled by.

@@ -1,7 +1,6 @@
 //! Heads of records: kind, data and flags, with their readers, their spelling and their lines.
 #![tactic(auto)]
 
-mod bounds;
 mod chunks;
 mod columns;
 mod columns_due;
@@ -12,6 +11,8 @@ mod face;
 mod form_due;
 mod forms;
 mod head;
+mod head_bounds;
+mod head_words;
 pub mod laws;
 mod point_reps_reader;
 mod ranges;
@@ -20,19 +21,14 @@ mod rep_parts;
 mod rep_spell;
 mod reps;
 mod spell;
-#[cfg(test)]
-mod spell_tests;
 mod stage;
-#[cfg(test)]
-mod tests;
 mod vertex;
 mod word_lists;
-mod words;
 
-pub use bounds::Bounds;
 pub use columns::{Column, Table};
 pub use forms::{EdgeForm, PointForm};
 pub use head::{EdgeData, FaceData, Flags, Head, Payload, VertexData};
+pub use head_bounds::HeadBounds;
 pub use reader::HeadReader;
 pub use reps::{EdgeRep, EdgeReps, PointRep, PointReps};
 pub use spell::HeadSpell;

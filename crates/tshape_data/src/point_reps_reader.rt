@@ -11,10 +11,10 @@ ghost use Rattle.tshape_data.specs.RepReading.{points_at};
 ghost use Rattle.tshape_data.specs.RepsLeft.{Settles};
 ghost use Rattle.tshape_data.specs.declared.point_reps_reader.PointStage.TheVariants as stages;
 
-use crate::bounds::Bounds;
 use crate::columns_due::{ColumnsDue, point_columns};
 use crate::form_due::point_form_due;
 use crate::forms::PointForm;
+use crate::head_bounds::HeadBounds;
 use crate::rep_parts::{point_rep, second_texts};
 use crate::reps::PointReps;
 use brep_tokens::{Decimals, Progress, ReadStop, Token, TokenText};
@@ -39,7 +39,7 @@ pub enum PointStage {
 /// Takes the tokens of the representations of a vertex up to their end.
 #[derive(Drop)]
 pub struct PointRepsReader {
-    pub bounds: Bounds,
+    pub bounds: HeadBounds,
     /// How many representations more may come.
     pub room: u64,
     pub reps: PointReps,
@@ -54,7 +54,7 @@ pub struct PointRepsReader {
 impl PointRepsReader {
     /// No token was taken yet, and so many representations may come.
     #[tactic(auto, using(crate::proofs::RepsOpen::no_point))]
-    pub fn new(alloc: Global, bounds: Bounds, room: u64) -> PointRepsReader
+    pub fn new(alloc: Global, bounds: HeadBounds, room: u64) -> PointRepsReader
         ensures left { (ts : List Token) → points_left result ts ≡ points_at bounds room ts }
         ensures waits { IsWaiting result }
         ensures open { points_left result [] ≡ Err more }

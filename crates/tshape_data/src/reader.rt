@@ -8,11 +8,11 @@ ghost use Rattle.tshape_data.specs.HeadReading.{head_at, payload_at, room_of};
 ghost use Rattle.tshape_data.specs.RepReading.{most_reps};
 ghost use Rattle.tshape_data.specs.declared.stage.Stage.TheVariants as stages;
 
-use crate::bounds::Bounds;
 use crate::due::{flags_due, kind_due};
 use crate::edge_reps_reader::EdgeRepsReader;
 use crate::form_due::MOST_REPS;
 use crate::head::{EdgeData, FaceData, Head, Payload, VertexData};
+use crate::head_bounds::HeadBounds;
 use crate::point_reps_reader::PointRepsReader;
 use crate::reps::{EdgeReps, PointReps};
 use crate::stage::{Fields, Stage};
@@ -24,7 +24,7 @@ use std::alloc::Global;
 /// Takes the tokens of a record up to its flags.
 #[derive(Drop)]
 pub struct HeadReader {
-    pub(crate) bounds: Bounds,
+    pub(crate) bounds: HeadBounds,
     pub(crate) version: u8,
     pub(crate) stage: Stage,
     /// The tolerance, and the coordinates of a vertex.
@@ -35,7 +35,7 @@ pub struct HeadReader {
 }
 
 /// How many representations may stand in a record and those after it.
-pub(crate) fn room(bounds: &Bounds) -> u64
+pub(crate) fn room(bounds: &HeadBounds) -> u64
     ensures { result ≡ room_of bounds.now }
 {
     MOST_REPS.saturating_sub(bounds.reps)
@@ -95,7 +95,7 @@ fn payload(fields: Fields, texts: Decimals, points: PointReps, reps: EdgeReps) -
 
 impl HeadReader {
     /// No token was taken yet.
-    pub fn new(alloc: Global, bounds: Bounds, version: u8) -> HeadReader
+    pub fn new(alloc: Global, bounds: HeadBounds, version: u8) -> HeadReader
         requires version { (version ≡ 1) ⊎ (version ≡ 2) }
         requires few { bounds.reps ≤ most_reps }
         ensures left { (ts : List Token) → head_left result ts ≡ head_at bounds version ts }

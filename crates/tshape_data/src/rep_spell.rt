@@ -9,10 +9,10 @@ ghost use Rattle.tshape_data.specs.Spelling.{part_text};
 ghost use Rattle.tshape_data.specs.SpellLeft.{CanGiveChunk, chunk_left, word_text, words_of};
 
 use crate::chunks::{ChunkSpell, words_alone, words_around};
+use crate::head_words::Word;
 use crate::ranges::RangeSpell;
 use crate::reps::{EdgeRep, PointRep};
 use crate::word_lists::Words;
-use crate::words::Word;
 use brep_tokens::Decimals;
 
 /// A number as a word.

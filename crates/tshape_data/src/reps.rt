@@ -1,7 +1,7 @@
 //! Representations: where a vertex lies on curves and surfaces, and where an edge does.
 
 use brep_tokens::Decimals;
-use entry_readers::EntryList;
+use lists::ListOf;
 
 /// A representation of a vertex. `texts` are its parameters.
 #[derive(Drop)]
@@ -72,7 +72,7 @@ pub enum EdgeRep {
 }
 
 /// The representations of a vertex, in their order.
-pub type PointReps = EntryList<PointRep>;
+pub type PointReps = ListOf<PointRep>;
 
 /// The representations of an edge, in their order.
-pub type EdgeReps = EntryList<EdgeRep>;
+pub type EdgeReps = ListOf<EdgeRep>;

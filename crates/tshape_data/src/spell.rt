@@ -9,11 +9,11 @@ ghost use Rattle.tshape_data.specs.Spelling.{part_text};
 
 use crate::chunks::{ChunkSpell, words_alone, words_around};
 use crate::head::{EdgeData, FaceData, Flags, Head, Payload};
+use crate::head_words::Word;
 use crate::ranges::RangeSpell;
 use crate::rep_spell::{edge_rep, number, point_first, point_rest};
 use crate::reps::{EdgeRep, PointRep};
 use crate::word_lists::Words;
-use crate::words::Word;
 use brep_tokens::{Decimals, TokenText};
 
 /// What stands behind the piece whose tokens are given: representations of a vertex, the rest of one and then others,

@@ -2,7 +2,7 @@
 ghost use Rattle.std.specs.Prelude.{◌≡◌, ◌∷◌, []};
 ghost use Rattle.tshape_data.specs.SpellLeft.{word_text, words_left, words_of};
 
-use crate::words::{Word, text_of};
+use crate::head_words::{Word, text_of};
 use brep_tokens::TokenText;
 
 /// What stands behind the last word.

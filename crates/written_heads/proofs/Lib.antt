@@ -1,4 +1,4 @@
 pub mod Digits
-pub mod PlaceLemmas
+pub mod LocationLemmas
 pub mod LineLemmas
 pub mod Writable

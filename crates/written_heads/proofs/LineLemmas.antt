@@ -9,7 +9,7 @@ use Rattle.brep_tokens.specs.Written.{line_text, lines_text}
 use Rattle.tshape_data.specs.Columns.{edge_number, second_texts}
 use Rattle.tshape_data.specs.Lines.{Line, edge_rep_lines, number_words, payload_lines, point_line, uv_lines}
 use Rattle.tshape_data.specs.Parts.{edge_flags, texts_in}
-use Rattle.tshape_data.specs.Places.{moved_edge_rep, moved_payload, moved_point}
+use Rattle.tshape_data.specs.Locations.{renumbered_edge_rep, renumbered_payload, renumbered_point}
 use Rattle.tshape_data.specs.Reps.{form_of_edge, form_of_point, texts_of_point}
 use Rattle.tshape_data.specs.declared.reps.EdgeRep.{EdgeRep}
 use Rattle.tshape_data.specs.declared.reps.EdgeRep.TheVariants as edge_reps
@@ -39,28 +39,28 @@ four_words a b d l =
     ∙ sym (ap (λ t. 32 ∷ t) (append_assoc a (32 ∷ (b ++ 32 ∷ (d ++ []))) (32 ∷ l)))
 
 -- ---- representations of edges
-module _ (move : ℕ → ℕ) where
+module _ (renumber : ℕ → ℕ) where
   pub seam_polygons : (r : EdgeRep) (a b mesh location : ℕ) → r ≡ edge_reps.SeamPolygons a b mesh location →
-      spaced (number_words (moved_edge_rep move r)) ≡ entries_text (a ∷ b ∷ mesh ∷ []) ++ 32 ∷ decimal (move location)
-  seam_polygons r a b mesh location is = ap (λ (e : EdgeRep). spaced (number_words (moved_edge_rep move e))) is ∙ four_words (decimal a) (decimal b) (decimal mesh) (decimal (move location))
+      spaced (number_words (renumbered_edge_rep renumber r)) ≡ entries_text (a ∷ b ∷ mesh ∷ []) ++ 32 ∷ decimal (renumber location)
+  seam_polygons r a b mesh location is = ap (λ (e : EdgeRep). spaced (number_words (renumbered_edge_rep renumber e))) is ∙ four_words (decimal a) (decimal b) (decimal mesh) (decimal (renumber location))
 
-  moved-form : (r : EdgeRep) → form_of_edge (moved_edge_rep move r) ≡ form_of_edge r
-  moved-form (edge_reps.Curve curve location texts) = refl
-  moved-form (edge_reps.Curve2 curve2 surface location texts) = refl
-  moved-form (edge_reps.Seam a b continuity surface location texts) = refl
-  moved-form (edge_reps.Joint continuity a a_location b b_location) = refl
-  moved-form (edge_reps.Polygon polygon location) = refl
-  moved-form (edge_reps.PolygonOn polygon_on mesh location) = refl
-  moved-form (edge_reps.SeamPolygons a b mesh location) = refl
+  renumbered-form : (r : EdgeRep) → form_of_edge (renumbered_edge_rep renumber r) ≡ form_of_edge r
+  renumbered-form (edge_reps.Curve curve location texts) = refl
+  renumbered-form (edge_reps.Curve2 curve2 surface location texts) = refl
+  renumbered-form (edge_reps.Seam a b continuity surface location texts) = refl
+  renumbered-form (edge_reps.Joint continuity a a_location b b_location) = refl
+  renumbered-form (edge_reps.Polygon polygon location) = refl
+  renumbered-form (edge_reps.PolygonOn polygon_on mesh location) = refl
+  renumbered-form (edge_reps.SeamPolygons a b mesh location) = refl
 
-  moved-texts : (version : ℕ) (r : EdgeRep) → texts_in version (moved_edge_rep move r) ≡ texts_in version r
-  moved-texts version (edge_reps.Curve curve location texts) = refl
-  moved-texts version (edge_reps.Curve2 curve2 surface location texts) = refl
-  moved-texts version (edge_reps.Seam a b continuity surface location texts) = refl
-  moved-texts version (edge_reps.Joint continuity a a_location b b_location) = refl
-  moved-texts version (edge_reps.Polygon polygon location) = refl
-  moved-texts version (edge_reps.PolygonOn polygon_on mesh location) = refl
-  moved-texts version (edge_reps.SeamPolygons a b mesh location) = refl
+  renumbered-texts : (version : ℕ) (r : EdgeRep) → texts_in version (renumbered_edge_rep renumber r) ≡ texts_in version r
+  renumbered-texts version (edge_reps.Curve curve location texts) = refl
+  renumbered-texts version (edge_reps.Curve2 curve2 surface location texts) = refl
+  renumbered-texts version (edge_reps.Seam a b continuity surface location texts) = refl
+  renumbered-texts version (edge_reps.Joint continuity a a_location b b_location) = refl
+  renumbered-texts version (edge_reps.Polygon polygon location) = refl
+  renumbered-texts version (edge_reps.PolygonOn polygon_on mesh location) = refl
+  renumbered-texts version (edge_reps.SeamPolygons a b mesh location) = refl
 
   rep_text : (d : List ℕ) (numbers parameters : Line) (rest : List ℕ) →
       line_text (d ∷ (numbers ++ parameters)) ++ rest ≡ d ++ (spaced numbers ++ (spaced parameters ++ 10 ∷ rest))
@@ -68,57 +68,57 @@ module _ (move : ℕ → ℕ) where
       ap (λ t. (t ++ 10 ∷ []) ++ rest) (join_spaced d (numbers ++ parameters) ∙ ap (λ t. d ++ t) (flat_map-append (λ (w : List ℕ). 32 ∷ w) numbers parameters))
       ∙ simp append_assoc
 
-  pub edge_rep_text : (version : ℕ) (r : EdgeRep) → lines_text (edge_rep_lines version (moved_edge_rep move r)) ≡
-      decimal (edge_number (form_of_edge r)) ++ (spaced (number_words (moved_edge_rep move r)) ++ parameters_text version r)
+  pub edge_rep_text : (version : ℕ) (r : EdgeRep) → lines_text (edge_rep_lines version (renumbered_edge_rep renumber r)) ≡
+      decimal (edge_number (form_of_edge r)) ++ (spaced (number_words (renumbered_edge_rep renumber r)) ++ parameters_text version r)
   edge_rep_text version r =
-      let e : EdgeRep = moved_edge_rep move r in
+      let e : EdgeRep = renumbered_edge_rep renumber r in
       rep_text (decimal (edge_number (form_of_edge e))) (number_words e) (take 2 (texts_in version e)) (lines_text (uv_lines (drop 2 (texts_in version e))))
-      ∙ (λ i. decimal (edge_number (moved-form r i)) ++ (spaced (number_words e) ++ (spaced (take 2 (moved-texts version r i)) ++ 10 ∷ lines_text (uv_lines (drop 2 (moved-texts version r i))))))
+      ∙ (λ i. decimal (edge_number (renumbered-form r i)) ++ (spaced (number_words e) ++ (spaced (take 2 (renumbered-texts version r i)) ++ 10 ∷ lines_text (uv_lines (drop 2 (renumbered-texts version r i))))))
 
 -- ---- representations of vertices
-module _ (move : ℕ → ℕ) where
+module _ (renumber : ℕ → ℕ) where
   pub on_curve : (p : PointRep) (texts : List (List ℕ)) (curve location : ℕ) → p ≡ point_reps.OnCurve texts curve location → length (texts_of_point p) ≡ 1 + second_texts (form_of_point p) →
-      join_with_byte 32 (point_line (moved_point move p)) ≡ slice_index_or texts 0 [] ++ (codes " 1" ++ (entries_text (curve ∷ []) ++ 32 ∷ decimal (move location)))
+      join_with_byte 32 (point_line (renumbered_point renumber p)) ≡ slice_index_or texts 0 [] ++ (codes " 1" ++ (entries_text (curve ∷ []) ++ 32 ∷ decimal (renumber location)))
   on_curve p texts curve location is long =
-      ap (λ (q : PointRep). join_with_byte 32 (point_line (moved_point move q))) is
+      ap (λ (q : PointRep). join_with_byte 32 (point_line (renumbered_point renumber q))) is
       ∙ words texts (sym (ap (λ (q : PointRep). length (texts_of_point q)) is) ∙ long ∙ ap (λ (q : PointRep). 1 + second_texts (form_of_point q)) is)
     where
       words : (ts : List (List ℕ)) → length ts ≡ 1 →
-          join_with_byte 32 (point_line (moved_point move (point_reps.OnCurve ts curve location))) ≡ slice_index_or ts 0 [] ++ (codes " 1" ++ (entries_text (curve ∷ []) ++ 32 ∷ decimal (move location)))
-      words (x ∷ []) h = ap (λ t. x ++ 32 ∷ (t ++ 32 ∷ (decimal curve ++ 32 ∷ decimal (move location)))) digit_1 ∙ ap (λ t. x ++ 32 ∷ 49 ∷ t) (one_word (decimal curve) (decimal (move location)))
+          join_with_byte 32 (point_line (renumbered_point renumber (point_reps.OnCurve ts curve location))) ≡ slice_index_or ts 0 [] ++ (codes " 1" ++ (entries_text (curve ∷ []) ++ 32 ∷ decimal (renumber location)))
+      words (x ∷ []) h = ap (λ t. x ++ 32 ∷ (t ++ 32 ∷ (decimal curve ++ 32 ∷ decimal (renumber location)))) digit_1 ∙ ap (λ t. x ++ 32 ∷ 49 ∷ t) (one_word (decimal curve) (decimal (renumber location)))
       words [] h = absurd (omega (arith, h))
       words (x ∷ y ∷ ts) h = absurd (omega (arith, h))
 
   pub on_curve2 : (p : PointRep) (texts : List (List ℕ)) (curve2 surface location : ℕ) → p ≡ point_reps.OnCurve2 texts curve2 surface location →
       length (texts_of_point p) ≡ 1 + second_texts (form_of_point p) →
-      join_with_byte 32 (point_line (moved_point move p)) ≡ slice_index_or texts 0 [] ++ (codes " 2" ++ (entries_text (curve2 ∷ surface ∷ []) ++ 32 ∷ decimal (move location)))
+      join_with_byte 32 (point_line (renumbered_point renumber p)) ≡ slice_index_or texts 0 [] ++ (codes " 2" ++ (entries_text (curve2 ∷ surface ∷ []) ++ 32 ∷ decimal (renumber location)))
   on_curve2 p texts curve2 surface location is long =
-      ap (λ (q : PointRep). join_with_byte 32 (point_line (moved_point move q))) is
+      ap (λ (q : PointRep). join_with_byte 32 (point_line (renumbered_point renumber q))) is
       ∙ words texts (sym (ap (λ (q : PointRep). length (texts_of_point q)) is) ∙ long ∙ ap (λ (q : PointRep). 1 + second_texts (form_of_point q)) is)
     where
       words : (ts : List (List ℕ)) → length ts ≡ 1 →
-          join_with_byte 32 (point_line (moved_point move (point_reps.OnCurve2 ts curve2 surface location))) ≡
-          slice_index_or ts 0 [] ++ (codes " 2" ++ (entries_text (curve2 ∷ surface ∷ []) ++ 32 ∷ decimal (move location)))
+          join_with_byte 32 (point_line (renumbered_point renumber (point_reps.OnCurve2 ts curve2 surface location))) ≡
+          slice_index_or ts 0 [] ++ (codes " 2" ++ (entries_text (curve2 ∷ surface ∷ []) ++ 32 ∷ decimal (renumber location)))
       words (x ∷ []) h =
-          ap (λ t. x ++ 32 ∷ (t ++ 32 ∷ (decimal curve2 ++ 32 ∷ (decimal surface ++ 32 ∷ decimal (move location))))) digit_2
-          ∙ ap (λ t. x ++ 32 ∷ 50 ∷ t) (two_words (decimal curve2) (decimal surface) (decimal (move location)))
+          ap (λ t. x ++ 32 ∷ (t ++ 32 ∷ (decimal curve2 ++ 32 ∷ (decimal surface ++ 32 ∷ decimal (renumber location))))) digit_2
+          ∙ ap (λ t. x ++ 32 ∷ 50 ∷ t) (two_words (decimal curve2) (decimal surface) (decimal (renumber location)))
       words [] h = absurd (omega (arith, h))
       words (x ∷ y ∷ ts) h = absurd (omega (arith, h))
 
   pub on_surface : (p : PointRep) (texts : List (List ℕ)) (surface location : ℕ) → p ≡ point_reps.OnSurface texts surface location →
       length (texts_of_point p) ≡ 1 + second_texts (form_of_point p) →
-      join_with_byte 32 (point_line (moved_point move p)) ≡
-      slice_index_or texts 0 [] ++ (codes " 3 " ++ (slice_index_or texts 1 [] ++ (entries_text (surface ∷ []) ++ 32 ∷ decimal (move location))))
+      join_with_byte 32 (point_line (renumbered_point renumber p)) ≡
+      slice_index_or texts 0 [] ++ (codes " 3 " ++ (slice_index_or texts 1 [] ++ (entries_text (surface ∷ []) ++ 32 ∷ decimal (renumber location))))
   on_surface p texts surface location is long =
-      ap (λ (q : PointRep). join_with_byte 32 (point_line (moved_point move q))) is
+      ap (λ (q : PointRep). join_with_byte 32 (point_line (renumbered_point renumber q))) is
       ∙ words texts (sym (ap (λ (q : PointRep). length (texts_of_point q)) is) ∙ long ∙ ap (λ (q : PointRep). 1 + second_texts (form_of_point q)) is)
     where
       words : (ts : List (List ℕ)) → length ts ≡ 2 →
-          join_with_byte 32 (point_line (moved_point move (point_reps.OnSurface ts surface location))) ≡
-          slice_index_or ts 0 [] ++ (codes " 3 " ++ (slice_index_or ts 1 [] ++ (entries_text (surface ∷ []) ++ 32 ∷ decimal (move location))))
+          join_with_byte 32 (point_line (renumbered_point renumber (point_reps.OnSurface ts surface location))) ≡
+          slice_index_or ts 0 [] ++ (codes " 3 " ++ (slice_index_or ts 1 [] ++ (entries_text (surface ∷ []) ++ 32 ∷ decimal (renumber location))))
       words (x ∷ y ∷ []) h =
-          ap (λ t. x ++ 32 ∷ (t ++ 32 ∷ (y ++ 32 ∷ (decimal surface ++ 32 ∷ decimal (move location))))) digit_3
-          ∙ ap (λ t. x ++ 32 ∷ 51 ∷ 32 ∷ (y ++ t)) (one_word (decimal surface) (decimal (move location)))
+          ap (λ t. x ++ 32 ∷ (t ++ 32 ∷ (y ++ 32 ∷ (decimal surface ++ 32 ∷ decimal (renumber location))))) digit_3
+          ∙ ap (λ t. x ++ 32 ∷ 51 ∷ 32 ∷ (y ++ t)) (one_word (decimal surface) (decimal (renumber location)))
       words [] h = absurd (omega (arith, h))
       words (x ∷ []) h = absurd (omega (arith, h))
       words (x ∷ y ∷ z ∷ ts) h = absurd (omega (arith, h))
@@ -154,35 +154,35 @@ four_more t0 t1 t2 t3 t4 a b d e e1 e2 e3 e4 =
     in_row = simp append_assoc
 
 -- ---- data
-module _ (move : ℕ → ℕ) where
+module _ (renumber : ℕ → ℕ) where
   abbrev pub points_text : List PointRep → List ℕ
-  points_text points = flat_map (λ (p : PointRep). line_text (point_line (moved_point move p))) points
+  points_text points = flat_map (λ (p : PointRep). line_text (point_line (renumbered_point renumber p))) points
 
   abbrev pub edge_reps_text : ℕ → List EdgeRep → List ℕ
-  edge_reps_text version reps = flat_map (λ (r : EdgeRep). lines_text (edge_rep_lines version (moved_edge_rep move r))) reps
+  edge_reps_text version reps = flat_map (λ (r : EdgeRep). lines_text (edge_rep_lines version (renumbered_edge_rep renumber r))) reps
 
-  each-point : (points : List PointRep) → lines_text (map point_line (map (moved_point move) points)) ≡ points_text points
+  each-point : (points : List PointRep) → lines_text (map point_line (map (renumbered_point renumber) points)) ≡ points_text points
   each-point [] = refl
-  each-point (p ∷ points) = ap (λ t. line_text (point_line (moved_point move p)) ++ t) (each-point points)
+  each-point (p ∷ points) = ap (λ t. line_text (point_line (renumbered_point renumber p)) ++ t) (each-point points)
 
-  each-edge_rep : (version : ℕ) (reps : List EdgeRep) → lines_text (flat_map (edge_rep_lines version) (map (moved_edge_rep move) reps)) ≡ edge_reps_text version reps
+  each-edge_rep : (version : ℕ) (reps : List EdgeRep) → lines_text (flat_map (edge_rep_lines version) (map (renumbered_edge_rep renumber) reps)) ≡ edge_reps_text version reps
   each-edge_rep version [] = refl
   each-edge_rep version (r ∷ reps) =
-      flat_map-append line_text (edge_rep_lines version (moved_edge_rep move r)) (flat_map (edge_rep_lines version) (map (moved_edge_rep move) reps))
-      ∙ ap (λ t. lines_text (edge_rep_lines version (moved_edge_rep move r)) ++ t) (each-edge_rep version reps)
+      flat_map-append line_text (edge_rep_lines version (renumbered_edge_rep renumber r)) (flat_map (edge_rep_lines version) (map (renumbered_edge_rep renumber) reps))
+      ∙ ap (λ t. lines_text (edge_rep_lines version (renumbered_edge_rep renumber r)) ++ t) (each-edge_rep version reps)
 
-  pub vertex_text : (d : VertexData) (points : List PointRep) → points ≡ d.points → lines_text (payload_lines 1 (moved_payload move (Vertex d))) ≡
+  pub vertex_text : (d : VertexData) (points : List PointRep) → points ≡ d.points → lines_text (payload_lines 1 (renumbered_payload renumber (Vertex d))) ≡
       vertex_texts d.texts ++ (points_text points ++ codes "0 0\n")
   unfolding vertex_texts
   vertex_text d points same =
       ap (λ t. line_text (take 1 d.texts) ++ (line_text (drop 1 d.texts) ++ t))
-      (flat_map-append line_text (map point_line (map (moved_point move) d.points)) _
+      (flat_map-append line_text (map point_line (map (renumbered_point renumber) d.points)) _
       ∙ ap (λ t. t ++ codes "0 0\n") (each-point d.points ∙ ap points_text (sym same)))
       ∙ sym (append_assoc (line_text (take 1 d.texts)) (line_text (drop 1 d.texts)) (points_text points ++ codes "0 0\n"))
 
-  pub edge_text : (version : ℕ) (d : EdgeData) (reps : List EdgeRep) → reps ≡ d.reps → lines_text (payload_lines version (moved_payload move (Edge d))) ≡
+  pub edge_text : (version : ℕ) (d : EdgeData) (reps : List EdgeRep) → reps ≡ d.reps → lines_text (payload_lines version (renumbered_payload renumber (Edge d))) ≡
       line_text (d.tolerance ++ edge_flags d) ++ (edge_reps_text version reps ++ codes "0\n")
   edge_text version d reps same =
       ap (λ t. line_text (d.tolerance ++ edge_flags d) ++ t)
-      (flat_map-append line_text (flat_map (edge_rep_lines version) (map (moved_edge_rep move) d.reps)) _
+      (flat_map-append line_text (flat_map (edge_rep_lines version) (map (renumbered_edge_rep renumber) d.reps)) _
       ∙ ap (λ t. t ++ codes "0\n") (each-edge_rep version d.reps ∙ ap (edge_reps_text version) (sym same)))

@@ -1,14 +1,14 @@
--- The data of a sound head, whose locations were met, can be written.
+-- The data of a sound head, whose locations were added, can be written.
 use Rattle.std.proofs.Common.{◌≤◌, subst, get_or}
 use Rattle.std.specs.Prelude.{ℕ, List, [], All, length}
 use Rattle.std.proofs.lemmas.List.Elements.{All-from_recursion}
 use Rattle.orientation.specs.declared.kind.Kind.{Kind}
 use Rattle.orientation.specs.declared.kind.Kind.TheVariants.{Ve, Ed, Wi, Fa, Sh, So, CS, Co}
 use Rattle.tshape_data.specs.Columns.{edge_columns}
-use Rattle.tshape_data.specs.Places.{places_of}
+use Rattle.tshape_data.specs.Locations.{data_locations}
 use Rattle.tshape_data.specs.Reps.{form_of_edge, numbers_of_edge}
 use Rattle.tshape_data.specs.Sound.{AreInColumns, IsSoundEdge, IsSoundEdgeRep, IsSoundFace, IsSoundPayload, IsSoundPoint, IsSoundVertex}
-use Rattle.tshape_data.specs.declared.bounds.Bounds.{Bounds}
+use Rattle.tshape_data.specs.declared.head_bounds.HeadBounds.{HeadBounds}
 use Rattle.tshape_data.specs.declared.reps.EdgeRep.{EdgeRep}
 use Rattle.tshape_data.specs.declared.reps.EdgeRep.TheVariants as edge_reps
 use Rattle.tshape_data.specs.declared.head.VertexData.{VertexData}
@@ -17,13 +17,13 @@ use Rattle.tshape_data.specs.declared.head.FaceData.{FaceData}
 use Rattle.tshape_data.specs.declared.head.Payload.{Payload}
 use Rattle.tshape_data.specs.declared.head.Payload.TheVariants.{Vertex, Edge, Face, Nothing}
 use Rattle.written_locations.specs.declared.written.WrittenLocations.{WrittenLocations}
-use Rattle.written_locations.specs.Met.{HasMet}
-use Rattle.written_heads.specs.Named.{edge_places, point_places}
+use Rattle.written_locations.specs.Added.{IsAdded}
+use Rattle.written_heads.specs.Named.{edge_locations, point_locations}
 use Rattle.written_heads.specs.Words.{IsContinuous, IsWritablePayload, IsWritten}
-use Rattle.written_heads.proofs.PlaceLemmas.{all_within, first, in_edge, in_face, in_vertex}
+use Rattle.written_heads.proofs.LocationLemmas.{all_within, first, in_edge, in_face, in_vertex}
 
 -- ---- the data of a kind
-module _ (b : Bounds) (version : ℕ) where
+module _ (b : HeadBounds) (version : ℕ) where
   pub sound-vertex : (k : Kind) (d : VertexData) → IsSoundPayload b version k (Vertex d) → IsSoundVertex b d
   sound-vertex Ve d h = h
   sound-vertex Ed d h = absurd h
@@ -64,32 +64,32 @@ module _ (b : Bounds) (version : ℕ) where
   continuous (edge_reps.SeamPolygons a c mesh location) h = tt
 
   module _ (s : WrittenLocations) where
-    both : (places : List ℕ) → All (λ place. place ≤ length s.section.now) places → All (HasMet s) places → All (IsWritten s) places
-    both places within met k d lt = record { within = within k d lt; met = met k d lt }
+    both : (locations : List ℕ) → All (λ place. place ≤ length s.section.now) locations → All (IsAdded s) locations → All (IsWritten s) locations
+    both locations within added k d lt = record { within = within k d lt; added = added k d lt }
 
-    vertex : (d : VertexData) → IsSoundVertex b d → All (IsWritten s) (places_of version (Vertex d)) → IsWritablePayload s version (Vertex d)
-    vertex d sound places =
-        let each = all_within (IsWritten s) point_places d.points (subst (All (IsWritten s)) (in_vertex version d) places) in
+    vertex : (d : VertexData) → IsSoundVertex b d → All (IsWritten s) (data_locations version (Vertex d)) → IsWritablePayload s version (Vertex d)
+    vertex d sound locations =
+        let each = all_within (IsWritten s) point_locations d.points (subst (All (IsWritten s)) (in_vertex version d) locations) in
         let all = All-from_recursion (IsSoundPoint b) d.points sound.points in
-        (sound.decimals.0, (λ k p lt. record { texts = (all k p lt).decimals.0; places = each k p lt }))
+        (sound.decimals.0, (λ k p lt. record { texts = (all k p lt).decimals.0; locations = each k p lt }))
 
-    edge : (d : EdgeData) → IsSoundEdge b version d → All (IsWritten s) (places_of version (Edge d)) → IsWritablePayload s version (Edge d)
-    edge d sound places =
-        let each = all_within (IsWritten s) edge_places d.reps (subst (All (IsWritten s)) (in_edge version d) places) in
+    edge : (d : EdgeData) → IsSoundEdge b version d → All (IsWritten s) (data_locations version (Edge d)) → IsWritablePayload s version (Edge d)
+    edge d sound locations =
+        let each = all_within (IsWritten s) edge_locations d.reps (subst (All (IsWritten s)) (in_edge version d) locations) in
         let all = All-from_recursion (IsSoundEdgeRep b version) d.reps sound.reps in (
           sound.decimals.0,
-          (λ k r lt. record { texts = (all k r lt).decimals.0; continuity = continuous (get_or d.reps k r) (all k r lt).numbers; places = each k r lt }),
+          (λ k r lt. record { texts = (all k r lt).decimals.0; continuity = continuous (get_or d.reps k r) (all k r lt).numbers; locations = each k r lt }),
         )
 
-    face : (d : FaceData) → IsSoundFace b d → All (IsWritten s) (places_of version (Face d)) → IsWritablePayload s version (Face d)
-    face d sound places = (sound.decimals.0, first (IsWritten s) d.location [] (subst (All (IsWritten s)) (in_face version d) places))
+    face : (d : FaceData) → IsSoundFace b d → All (IsWritten s) (data_locations version (Face d)) → IsWritablePayload s version (Face d)
+    face d sound locations = (sound.decimals.0, first (IsWritten s) d.location [] (subst (All (IsWritten s)) (in_face version d) locations))
 
-    writable-each : (k : Kind) (p : Payload) → IsSoundPayload b version k p → All (IsWritten s) (places_of version p) → IsWritablePayload s version p
-    writable-each k (Vertex d) h places = vertex d (sound-vertex k d h) places
-    writable-each k (Edge d) h places = edge d (sound-edge k d h) places
-    writable-each k (Face d) h places = face d (sound-face k d h) places
-    writable-each k Nothing h places = tt
+    writable-each : (k : Kind) (p : Payload) → IsSoundPayload b version k p → All (IsWritten s) (data_locations version p) → IsWritablePayload s version p
+    writable-each k (Vertex d) h locations = vertex d (sound-vertex k d h) locations
+    writable-each k (Edge d) h locations = edge d (sound-edge k d h) locations
+    writable-each k (Face d) h locations = face d (sound-face k d h) locations
+    writable-each k Nothing h locations = tt
 
-    pub writable : (k : Kind) (p : Payload) → IsSoundPayload b version k p → All (λ place. place ≤ length s.section.now) (places_of version p) → All (HasMet s) (places_of version p) →
+    pub writable : (k : Kind) (p : Payload) → IsSoundPayload b version k p → All (λ place. place ≤ length s.section.now) (data_locations version p) → All (IsAdded s) (data_locations version p) →
         IsWritablePayload s version p
-    writable k p h within met = writable-each k p h (both (places_of version p) within met)
+    writable k p h within added = writable-each k p h (both (data_locations version p) within added)

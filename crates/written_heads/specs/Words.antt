@@ -12,9 +12,9 @@ use Rattle.tshape_data.specs.declared.reps.EdgeRep.TheVariants as edge_reps
 use Rattle.tshape_data.specs.declared.reps.PointRep.{PointRep}
 use Rattle.tshape_data.specs.declared.head.Payload.{Payload}
 use Rattle.tshape_data.specs.declared.head.Payload.TheVariants.{Vertex, Edge, Face, Nothing}
-use Rattle.written_heads.specs.Named.{edge_places, point_places}
+use Rattle.written_heads.specs.Named.{edge_locations, point_locations}
 use Rattle.written_locations.specs.declared.written.WrittenLocations.{WrittenLocations}
-use Rattle.written_locations.specs.Met.{HasMet}
+use Rattle.written_locations.specs.Added.{IsAdded}
 
 -- a space before each word
 abbrev pub spaced : List (List ℕ) → List ℕ
@@ -24,10 +24,10 @@ spaced words = flat_map (λ (word : List ℕ). 32 ∷ word) words
 abbrev pub entries_text : List ℕ → List ℕ
 entries_text entries = flat_map (λ (n : ℕ). 32 ∷ decimal n) entries
 
--- a place of the section that was met
+-- a place of the section that was added
 pub record IsWritten (s : WrittenLocations) (place : ℕ) : Type 0 where
   pub within : place ≤ length s.section.now
-  pub met : HasMet s place
+  pub added : IsAdded s place
 
 -- the places of continuity words are among those of the seven
 abbrev pub IsContinuous : EdgeRep → Type 0
@@ -39,16 +39,16 @@ IsContinuous (edge_reps.Polygon polygon location) = Unit {0}
 IsContinuous (edge_reps.PolygonOn polygon_on mesh location) = Unit {0}
 IsContinuous (edge_reps.SeamPolygons first second mesh location) = Unit {0}
 
--- a representation of an edge with as many decimals as its form has, whose locations were met
+-- a representation of an edge with as many decimals as its form has, whose locations were added
 pub record IsWritableEdge (s : WrittenLocations) (version : ℕ) (r : EdgeRep) : Type 0 where
   pub texts : length (texts_of_edge r) ≡ edge_texts version (form_of_edge r)
   pub continuity : IsContinuous r
-  pub places : All (IsWritten s) (edge_places r)
+  pub locations : All (IsWritten s) (edge_locations r)
 
 -- and one of a vertex
 pub record IsWritablePoint (s : WrittenLocations) (p : PointRep) : Type 0 where
   pub texts : length (texts_of_point p) ≡ 1 + second_texts (form_of_point p)
-  pub places : All (IsWritten s) (point_places p)
+  pub locations : All (IsWritten s) (point_locations p)
 
 -- the number of the form, and the words of the other numbers
 abbrev pub numbers_text : EdgeRep → List ℕ
@@ -62,7 +62,7 @@ parameters_text version r = spaced (take 2 (texts_in version r)) ++ 10 ∷ lines
 unfoldable pub vertex_texts : List (List ℕ) → List ℕ
 vertex_texts texts = line_text (take 1 texts) ++ line_text (drop 1 texts)
 
--- data with as many decimals as they have in a version, whose locations were met
+-- data with as many decimals as they have in a version, whose locations were added
 abbrev pub IsWritablePayload : WrittenLocations → ℕ → Payload → Type 0
 IsWritablePayload s version (Vertex d) = (length d.texts ≡ 4) × All (IsWritablePoint s) d.points
 IsWritablePayload s version (Edge d) = (length d.tolerance ≡ 1) × All (IsWritableEdge s version) d.reps

@@ -5,13 +5,13 @@ ghost use Rattle.std.specs.List.{flat_map};
 ghost use Rattle.std.specs.Prelude.{◌≡◌, ◌<◌, ◌≤◌, ◌∷◌, ◌++◌, All, OnOk, [], drop, length, take};
 ghost use Rattle.tshape_data.specs.Columns.{edge_number, edge_texts, p_curve_texts};
 ghost use Rattle.tshape_data.specs.Lines.{edge_rep_lines, number_words, uv_lines};
-ghost use Rattle.tshape_data.specs.Places.{moved_edge_rep};
+ghost use Rattle.tshape_data.specs.Locations.{renumbered_edge_rep};
 ghost use Rattle.tshape_data.specs.Reps.{form_of_edge, texts_of_edge};
-ghost use Rattle.written_heads.specs.Named.{edge_places};
+ghost use Rattle.written_heads.specs.Named.{edge_locations};
 ghost use Rattle.written_heads.specs.Words.{IsContinuous, IsWritableEdge, IsWritten, numbers_text, parameters_text, spaced};
-ghost use Rattle.written_locations.specs.Met.{IsNumbering, location_number};
+ghost use Rattle.written_locations.specs.Added.{IsNumbering, location_number};
 
-use crate::fields::{continuity_word, push_decimal, push_entries, push_place};
+use crate::fields::{continuity_word, push_decimal, push_entries, push_location};
 use brep_tokens::Decimals;
 use std::alloc::AllocError;
 use tshape_data::EdgeRep;
@@ -40,8 +40,8 @@ fn push_columns(
 ) -> Result<(), AllocError>
     requires numbering { IsNumbering locations.now }
     requires continuity { IsContinuous rep.now }
-    requires places { All (IsWritten locations.now) (edge_places rep.now) }
-    ensures { OnOk result (text.new.items ≡ text.old.items ++ spaced (number_words (moved_edge_rep (location_number locations.now) rep.now))) }
+    requires named { All (IsWritten locations.now) (edge_locations rep.now) }
+    ensures { OnOk result (text.new.items ≡ text.old.items ++ spaced (number_words (renumbered_edge_rep (location_number locations.now) rep.now))) }
 {
     match rep {
         EdgeRep::Curve {
@@ -50,7 +50,7 @@ fn push_columns(
             ..
         } => {
             push_entries(text, &[*curve])?;
-            push_place(text, *location, locations)
+            push_location(text, *location, locations)
         }
         EdgeRep::Curve2 {
             curve2,
@@ -59,7 +59,7 @@ fn push_columns(
             ..
         } => {
             push_entries(text, &[*curve2, *surface])?;
-            push_place(text, *location, locations)
+            push_location(text, *location, locations)
         }
         EdgeRep::Seam {
             first_curve2,
@@ -72,7 +72,7 @@ fn push_columns(
             push_entries(text, &[*first_curve2, *second_curve2])?;
             text.extend_from_slice(&continuity_word(*continuity))?;
             push_entries(text, &[*surface])?;
-            push_place(text, *location, locations)
+            push_location(text, *location, locations)
         }
         EdgeRep::Joint {
             continuity,
@@ -84,13 +84,13 @@ fn push_columns(
             text.push(b' ')?;
             text.extend_from_slice(&continuity_word(*continuity))?;
             push_entries(text, &[*first_surface])?;
-            push_place(text, *first_location, locations)?;
+            push_location(text, *first_location, locations)?;
             push_entries(text, &[*second_surface])?;
-            push_place(text, *second_location, locations)
+            push_location(text, *second_location, locations)
         }
         EdgeRep::Polygon { polygon, location } => {
             push_entries(text, &[*polygon])?;
-            push_place(text, *location, locations)
+            push_location(text, *location, locations)
         }
         EdgeRep::PolygonOn {
             polygon_on,
@@ -98,7 +98,7 @@ fn push_columns(
             location,
         } => {
             push_entries(text, &[*polygon_on, *mesh])?;
-            push_place(text, *location, locations)
+            push_location(text, *location, locations)
         }
         EdgeRep::SeamPolygons {
             first_polygon_on,
@@ -107,7 +107,7 @@ fn push_columns(
             location,
         } => {
             push_entries(text, &[*first_polygon_on, *second_polygon_on, *mesh])?;
-            push_place(text, *location, locations)
+            push_location(text, *location, locations)
         }
     }
 }
@@ -172,7 +172,7 @@ fn push_edge_rep(
 ) -> Result<(), AllocError>
     requires numbering { IsNumbering locations.now }
     requires writable { IsWritableEdge locations.now version rep.now }
-    ensures { OnOk result (text.new.items ≡ text.old.items ++ lines_text (edge_rep_lines version (moved_edge_rep (location_number locations.now) rep.now))) }
+    ensures { OnOk result (text.new.items ≡ text.old.items ++ lines_text (edge_rep_lines version (renumbered_edge_rep (location_number locations.now) rep.now))) }
 {
     text.push(form_digit(rep))?;
     push_columns(text, rep, locations)?;
@@ -189,7 +189,7 @@ pub(crate) fn push_edge_reps(
     requires numbering { IsNumbering locations.now }
     requires writable { All (IsWritableEdge locations.now version) reps.now }
     ensures { OnOk result (text.new.items ≡ text.old.items
-        ++ flat_map (λ r. lines_text (edge_rep_lines version (moved_edge_rep (location_number locations.now) r))) reps.now) }
+        ++ flat_map (λ r. lines_text (edge_rep_lines version (renumbered_edge_rep (location_number locations.now) r))) reps.now) }
 {
     for rep in reps {
         push_edge_rep(text, rep, version, locations)?;

@@ -6,7 +6,7 @@ ghost use Rattle.std.specs.Prelude.{◌≡◌, ◌<◌, ◌∷◌, ◌++◌, OnO
 ghost use Rattle.tshape_data.specs.Flags.{flag_code, spell_flags};
 ghost use Rattle.tshape_data.specs.Parts.{continuity_text};
 ghost use Rattle.written_heads.specs.Words.{entries_text, IsWritten};
-ghost use Rattle.written_locations.specs.Met.{IsNumbering, location_number};
+ghost use Rattle.written_locations.specs.Added.{IsNumbering, location_number};
 
 use brep_tokens::Decimals;
 use itoa::Buffer;
@@ -33,17 +33,17 @@ pub(crate) fn push_entries(text: &mut Vec<u8>, entries: &[u32]) -> Result<(), Al
     Ok(())
 }
 
-/// A space and the written number of a place.
-pub(crate) fn push_place(
+/// A space and the written number of a location.
+pub(crate) fn push_location(
     text: &mut Vec<u8>,
-    place: u32,
+    location: u32,
     locations: &WrittenLocations<'_>,
 ) -> Result<(), AllocError>
     requires numbering { IsNumbering locations.now }
-    requires written { IsWritten locations.now place }
-    ensures { OnOk result (text.new.items ≡ text.old.items ++ 32 ∷ decimal (location_number locations.now place)) }
+    requires written { IsWritten locations.now location }
+    ensures { OnOk result (text.new.items ≡ text.old.items ++ 32 ∷ decimal (location_number locations.now location)) }
 {
-    push_number(text, locations.number(place))
+    push_number(text, locations.number(location))
 }
 
 /// One of the decimals.

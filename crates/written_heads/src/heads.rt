@@ -3,15 +3,15 @@ ghost use Rattle.brep_tokens.specs.Written.{line_text, lines_text};
 ghost use Rattle.std.specs.Prelude.{◌≡◌, ◌++◌, ◌≤◌, All, OnOk, length};
 ghost use Rattle.tshape_data.specs.Lines.{head_lines, mesh_lines, payload_lines};
 ghost use Rattle.tshape_data.specs.Parts.{edge_flags};
-ghost use Rattle.tshape_data.specs.Places.{moved_head, moved_payload, places_of};
+ghost use Rattle.tshape_data.specs.Locations.{renumbered_head, renumbered_payload, data_locations};
 ghost use Rattle.tshape_data.specs.Sound.{IsSoundHead};
-ghost use Rattle.tshape_data.specs.declared.bounds.Bounds.{Bounds};
+ghost use Rattle.tshape_data.specs.declared.head_bounds.HeadBounds.{HeadBounds};
 ghost use Rattle.tshape_data.specs.declared.head.Payload.TheVariants.{Edge, Face, Vertex};
 ghost use Rattle.written_heads.specs.Words.{IsWritableEdge, IsWritablePayload, IsWritablePoint, IsWritten, vertex_texts};
-ghost use Rattle.written_locations.specs.Met.{HasMet, IsNumbering, location_number};
+ghost use Rattle.written_locations.specs.Added.{IsAdded, IsNumbering, location_number};
 
 use crate::edges::push_edge_reps;
-use crate::fields::{flag_digit, flag_digits, push_decimal, push_number, push_place, push_text};
+use crate::fields::{flag_digit, flag_digits, push_decimal, push_location, push_number, push_text};
 use crate::points::push_points;
 use brep_tokens::Decimals;
 use orientation::kind_name;
@@ -40,7 +40,7 @@ fn push_vertex(
     requires numbering { IsNumbering locations.now }
     requires texts { length vertex.now.texts ≡ 4 }
     requires points { All (IsWritablePoint locations.now) vertex.now.points }
-    ensures { OnOk result (text.new.items ≡ text.old.items ++ lines_text (payload_lines 1 (moved_payload (location_number locations.now) (Vertex vertex.now)))) }
+    ensures { OnOk result (text.new.items ≡ text.old.items ++ lines_text (payload_lines 1 (renumbered_payload (location_number locations.now) (Vertex vertex.now)))) }
 {
     push_vertex_texts(text, &vertex.texts)?;
     push_points(text, vertex.points.as_slice(), locations)?;
@@ -74,7 +74,7 @@ fn push_edge(
     requires numbering { IsNumbering locations.now }
     requires tolerance { length edge.now.tolerance ≡ 1 }
     requires reps { All (IsWritableEdge locations.now version) edge.now.reps }
-    ensures { OnOk result (text.new.items ≡ text.old.items ++ lines_text (payload_lines version (moved_payload (location_number locations.now) (Edge edge.now)))) }
+    ensures { OnOk result (text.new.items ≡ text.old.items ++ lines_text (payload_lines version (renumbered_payload (location_number locations.now) (Edge edge.now)))) }
 {
     push_edge_flags(text, edge)?;
     push_edge_reps(text, edge.reps.as_slice(), version, locations)?;
@@ -104,13 +104,13 @@ fn push_face(
     requires numbering { IsNumbering locations.now }
     requires tolerance { length face.now.tolerance ≡ 1 }
     requires location { IsWritten locations.now face.now.location }
-    ensures { OnOk result (text.new.items ≡ text.old.items ++ lines_text (payload_lines 1 (moved_payload (location_number locations.now) (Face face.now)))) }
+    ensures { OnOk result (text.new.items ≡ text.old.items ++ lines_text (payload_lines 1 (renumbered_payload (location_number locations.now) (Face face.now)))) }
 {
     text.push(flag_digit(face.natural))?;
     text.push(b' ')?;
     push_text(text, &face.tolerance, 0)?;
     push_number(text, face.surface as usize)?;
-    push_place(text, face.location, locations)?;
+    push_location(text, face.location, locations)?;
     text.push(b'\n')?;
     push_mesh(text, face.mesh)
 }
@@ -124,7 +124,7 @@ fn push_payload(
 ) -> Result<(), AllocError>
     requires numbering { IsNumbering locations.now }
     requires writable { IsWritablePayload locations.now version payload.now }
-    ensures { OnOk result (text.new.items ≡ text.old.items ++ lines_text (payload_lines version (moved_payload (location_number locations.now) payload.now))) }
+    ensures { OnOk result (text.new.items ≡ text.old.items ++ lines_text (payload_lines version (renumbered_payload (location_number locations.now) payload.now))) }
 {
     match payload {
         Payload::Vertex(vertex) => push_vertex(text, vertex, locations),
@@ -135,18 +135,18 @@ fn push_payload(
 }
 
 /// Appends the lines of a record's head in a file of a version: its kind, its data, an empty line and its flags. The locations in
-/// its data have the numbers of the words that were met.
+/// its data have the numbers of the words that were added.
 pub fn push_head(
     text: &mut Vec<u8>,
     head: &Head,
     version: u8,
     locations: &WrittenLocations<'_>,
 ) -> Result<(), AllocError>
-    requires sound { (b : Bounds) × IsSoundHead b version head.now }
+    requires sound { (b : HeadBounds) × IsSoundHead b version head.now }
     requires numbering { IsNumbering locations.now }
-    requires within { All (λ place. place ≤ length locations.now.section.now) (places_of version head.now.payload) }
-    requires met { All (HasMet locations.now) (places_of version head.now.payload) }
-    ensures { OnOk result (text.new.items ≡ text.old.items ++ lines_text (head_lines version (moved_head (location_number locations.now) head.now))) }
+    requires within { All (λ place. place ≤ length locations.now.section.now) (data_locations version head.now.payload) }
+    requires added { All (IsAdded locations.now) (data_locations version head.now.payload) }
+    ensures { OnOk result (text.new.items ≡ text.old.items ++ lines_text (head_lines version (renumbered_head (location_number locations.now) head.now))) }
 {
     text.extend_from_slice(kind_name(head.kind))?;
     text.push(b'\n')?;

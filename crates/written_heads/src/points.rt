@@ -3,11 +3,11 @@ ghost use Rattle.brep_tokens.specs.Written.{line_text};
 ghost use Rattle.std.specs.List.{flat_map, join_with_byte};
 ghost use Rattle.std.specs.Prelude.{◌≡◌, ◌++◌, All, OnOk};
 ghost use Rattle.tshape_data.specs.Lines.{point_line};
-ghost use Rattle.tshape_data.specs.Places.{moved_point};
+ghost use Rattle.tshape_data.specs.Locations.{renumbered_point};
 ghost use Rattle.written_heads.specs.Words.{IsWritablePoint};
-ghost use Rattle.written_locations.specs.Met.{IsNumbering, location_number};
+ghost use Rattle.written_locations.specs.Added.{IsNumbering, location_number};
 
-use crate::fields::{push_entries, push_place, push_text};
+use crate::fields::{push_entries, push_location, push_text};
 use std::alloc::AllocError;
 use tshape_data::PointRep;
 use written_locations::WrittenLocations;
@@ -20,7 +20,7 @@ fn push_words(
 ) -> Result<(), AllocError>
     requires numbering { IsNumbering locations.now }
     requires writable { IsWritablePoint locations.now point.now }
-    ensures { OnOk result (text.new.items ≡ text.old.items ++ join_with_byte 32 (point_line (moved_point (location_number locations.now) point.now))) }
+    ensures { OnOk result (text.new.items ≡ text.old.items ++ join_with_byte 32 (point_line (renumbered_point (location_number locations.now) point.now))) }
 {
     match point {
         PointRep::OnCurve {
@@ -31,7 +31,7 @@ fn push_words(
             push_text(text, texts, 0)?;
             text.extend_from_slice(b" 1")?;
             push_entries(text, &[*curve])?;
-            push_place(text, *location, locations)
+            push_location(text, *location, locations)
         }
         PointRep::OnCurve2 {
             texts,
@@ -42,7 +42,7 @@ fn push_words(
             push_text(text, texts, 0)?;
             text.extend_from_slice(b" 2")?;
             push_entries(text, &[*curve2, *surface])?;
-            push_place(text, *location, locations)
+            push_location(text, *location, locations)
         }
         PointRep::OnSurface {
             texts,
@@ -53,7 +53,7 @@ fn push_words(
             text.extend_from_slice(b" 3 ")?;
             push_text(text, texts, 1)?;
             push_entries(text, &[*surface])?;
-            push_place(text, *location, locations)
+            push_location(text, *location, locations)
         }
     }
 }
@@ -66,7 +66,7 @@ pub(crate) fn push_points(
 ) -> Result<(), AllocError>
     requires numbering { IsNumbering locations.now }
     requires writable { All (IsWritablePoint locations.now) points.now }
-    ensures { OnOk result (text.new.items ≡ text.old.items ++ flat_map (λ p. line_text (point_line (moved_point (location_number locations.now) p))) points.now) }
+    ensures { OnOk result (text.new.items ≡ text.old.items ++ flat_map (λ p. line_text (point_line (renumbered_point (location_number locations.now) p))) points.now) }
 {
     for point in points {
         push_words(text, point, locations)?;

@@ -1,4 +1,4 @@
 pub mod Words
 pub mod Numbers
-pub mod Meeting
+pub mod Adding
 pub mod Sections

@@ -2,7 +2,8 @@
 use Rattle.std.proofs.Common.{◌≡◌, ◌≤◌, ◌<◌, ◌+◌, ◌-◌, refl, sym, ◌∙◌, ap, subst, arith, inl, inr}
 use Rattle.std.specs.Prelude.{ℕ, zero, suc, Bool, true, false, if◌then◌else◌, List, [], ◌∷◌, ◌++◌, length, map, slice_get, unwrap_or, Option, Some, None, Contains}
 use Rattle.std.proofs.lemmas.List.{length-append, length-map}
-use Rattle.expansion_laws.proofs.Members.{by_test, Contains-cases, Contains-none}
+use Rattle.lists.proofs.Members.{Contains-cases, Contains-none}
+use Rattle.lists.proofs.Cases.{by_test}
 use Rattle.location_words.specs.declared.pair.Pair.{Pair}
 use Rattle.location_words.specs.Equal.{pairs_decide}
 use Rattle.location_words.specs.Pairs.{pairs_eq}

@@ -6,7 +6,8 @@ use Rattle.std.specs.Cmp.{signed_Decides}
 use Rattle.std.specs.Ordering.{int_eq}
 use Rattle.std.proofs.lemmas.List.{length-append, length-map}
 use Rattle.std.proofs.lemmas.Option.{unwrap_or-slice_get}
-use Rattle.expansion_laws.proofs.Members.{by_test, Contains-here, Contains-there, Contains-none}
+use Rattle.lists.proofs.Members.{Contains-here, Contains-none, Contains-there}
+use Rattle.lists.proofs.Cases.{by_test}
 use Rattle.entry_readers.specs.Begins.{AreDecimals}
 use Rattle.location_words.specs.declared.pair.Pair.{Pair}
 use Rattle.location_words.specs.Pairs.{pair}

@@ -5,7 +5,11 @@ use Rattle.std.specs.List.{list_any}
 use Rattle.std.proofs.lemmas.List.{append_assoc, length-append}
 use Rattle.std.proofs.lemmas.List.Elements.{Contains-append_left, Contains-push, Contains-push_cases}
 use Rattle.std.proofs.lemmas.List.Sums.{fold-append}
-use Rattle.expansion_laws.proofs.Members.{by_test, Distinct, Distinct-push, Contains-cases, Contains-here, Contains-there, Contains-none, list_any-contains, list_any-found, no_more}
+use Rattle.lists.specs.Distinct.{IsDistinct}
+use Rattle.lists.proofs.Tests.{list_any-contains, list_any-found}
+use Rattle.lists.proofs.Members.{Contains-cases, Contains-here, Contains-none, Contains-there}
+use Rattle.lists.proofs.Distinct.{IsDistinct-push, length-le_from_distinct}
+use Rattle.lists.proofs.Cases.{by_test}
 use Rattle.location_words.specs.declared.pair.Pair.{Pair}
 use Rattle.location_words.specs.Equal.{pairs_decide}
 use Rattle.location_words.specs.Pairs.{pairs_eq}
@@ -64,10 +68,10 @@ entered-cases words w v m = by_test (list_any (pairs_eq w) words)
     (λ e. inl (subst (λ l. Contains l v) (entered-by true words w e) m))
     (λ e. elim (Contains-push_cases words w v (subst (λ l. Contains l v) (entered-by false words w e) m)) [ inl k ↦ inl k | inr same ↦ inr same ])
 
-pub entered-distinct : (words : List Word) (w : Word) → Distinct words → Distinct (entered words w)
+pub entered-distinct : (words : List Word) (w : Word) → IsDistinct words → IsDistinct (entered words w)
 entered-distinct words w d = by_test (list_any (pairs_eq w) words)
-    (λ e. subst Distinct (sym (entered-by true words w e)) d)
-    (λ e. subst Distinct (sym (entered-by false words w e)) (Distinct-push words w d (λ m. true-false (member-any words w m) e)))
+    (λ e. subst IsDistinct (sym (entered-by true words w e)) d)
+    (λ e. subst IsDistinct (sym (entered-by false words w e)) (IsDistinct-push words w d (λ m. true-false (member-any words w m) e)))
   where
     true-false : {b : Bool} → b ≡ true → b ≡ false → ⊥
     true-false t f = cc
@@ -91,10 +95,10 @@ with-cases words w v m = by_fixed (fixed_number w)
     (λ k e. inl (subst (λ l. Contains l v) (fixed-stays words w k e) m))
     (λ e. elim (entered-cases words w v (subst (λ l. Contains l v) (open-enters words w e) m)) [ inl k ↦ inl k | inr same ↦ inr (same, e) ])
 
-pub with-distinct : (words : List Word) (w : Word) → Distinct words → Distinct (with_word words w)
+pub with-distinct : (words : List Word) (w : Word) → IsDistinct words → IsDistinct (with_word words w)
 with-distinct words w d = by_fixed (fixed_number w)
-    (λ k e. subst Distinct (sym (fixed-stays words w k e)) d)
-    (λ e. subst Distinct (sym (open-enters words w e)) (entered-distinct words w d))
+    (λ k e. subst IsDistinct (sym (fixed-stays words w k e)) d)
+    (λ e. subst IsDistinct (sym (open-enters words w e)) (entered-distinct words w d))
 
 -- a word that has its number already adds nothing
 pub with-known : (words : List Word) (w : Word) → (fixed_number w ≡ None → Contains words w) → with_word words w ≡ words
@@ -124,7 +128,7 @@ folded-from acc (w ∷ ws) v m = elim (folded-from (with_word acc w) ws v m) [
   | inr k ↦ inr (Contains-there w v ws k.0, k.1)
 ]
 
-folded-distinct : (acc ws : List Word) → Distinct acc → Distinct (fold with_word acc ws)
+folded-distinct : (acc ws : List Word) → IsDistinct acc → IsDistinct (fold with_word acc ws)
 folded-distinct acc [] d = d
 folded-distinct acc (w ∷ ws) d = folded-distinct (with_word acc w) ws (with-distinct acc w d)
 
@@ -134,7 +138,7 @@ further-found ws v m e = folded-found [] ws v m e
 pub further-from : (ws : List Word) (v : Word) → Contains (further_words ws) v → Contains ws v × (fixed_number v ≡ None)
 further-from ws v m = elim (folded-from [] ws v m) [ inl k ↦ absurd (Contains-none v k) | inr k ↦ k ]
 
-pub further-distinct : (ws : List Word) → Distinct (further_words ws)
+pub further-distinct : (ws : List Word) → IsDistinct (further_words ws)
 further-distinct ws = folded-distinct [] ws tt
 
 pub further-push : (ws : List Word) (w : Word) → further_words (ws ++ w ∷ []) ≡ with_word (further_words ws) w
@@ -190,9 +194,9 @@ open-entries p (Product factors ∷ entries) =
     omega (arith, rest, one)
 
 -- with the datums the further words are no more than the entries of a section whose places' words they are
-pub further-few : (entries : List LocationEntry) (further : List Word) → Distinct further → ((w : Word) → Contains further w → Contains (words_of entries) w × (fixed_number w ≡ None)) →
+pub further-few : (entries : List LocationEntry) (further : List Word) → IsDistinct further → ((w : Word) → Contains further w → Contains (words_of entries) w × (fixed_number w ≡ None)) →
     length (datums_of entries) + length further ≤ length entries
 further-few entries further distinct of =
-    let count = no_more further (open_words (words_of entries)) distinct (λ w m. open-member (words_of entries) w (of w m).0 (of w m).1) in
+    let count = length-le_from_distinct further (open_words (words_of entries)) distinct (λ w m. open-member (words_of entries) w (of w m).0 (of w m).1) in
     let all = open-entries identity_alone entries in
     omega (arith, count, all)

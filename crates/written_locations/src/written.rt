@@ -1,15 +1,15 @@
-//! Numbers for the words of the places that are met.
+//! Numbers for the words of the places that are added.
 ghost use Rattle.std.specs.Prelude.{◌≡◌, ◌<◌, ◌≤◌, ℕ, [], ◌∷◌, length, slice_get, Contains, IfOk, None, OnOk, Some};
 ghost use Rattle.location_table.specs.Words.{datums_of, word_of_place};
 ghost use Rattle.location_words.specs.Pairs.{IsHeldWord};
 ghost use Rattle.written_locations.specs.Further.{fixed_number, number_of_word, with_word};
-ghost use Rattle.written_locations.specs.Met.{further_of, number_at, word_at, HasMet, IsNumbering, Meets};
+ghost use Rattle.written_locations.specs.Added.{further_of, number_at, word_at, IsAdded, IsNumbering, Adds};
 
 use location_table::Locations;
 use location_words::{Word, WordId, Words};
 use std::alloc::{AllocError, Global};
 
-/// The words of a section's places, as they are met one after another: each word that is neither the identity nor one datum
+/// The words of a section's places, as they are added one after another: each word that is neither the identity nor one datum
 /// gets the next number after the datums when it first occurs.
 #[derive(Drop)]
 pub struct WrittenLocations<'a> {
@@ -33,7 +33,7 @@ fn fixed_number(word: &Word) -> Option<u32>
 }
 
 impl<'a> WrittenLocations<'a> {
-    /// No place of the section has been met.
+    /// No place of the section has been added.
     pub fn new(alloc: Global, section: &'a Locations) -> Result<WrittenLocations<'a>, AllocError>
         ensures numbering { IfOk result IsNumbering }
         ensures section { IfOk result (λ s. s.section.now ≡ section.now) }
@@ -47,11 +47,11 @@ impl<'a> WrittenLocations<'a> {
         })
     }
 
-    /// A place is met: its word gets a number, where it has none yet.
-    pub fn meet(&mut self, place: u32) -> Result<(), AllocError>
+    /// A place is added: its word gets a number, where it has none yet.
+    pub fn add(&mut self, place: u32) -> Result<(), AllocError>
         requires numbering { IsNumbering self.old }
         requires place { place ≤ length self.old.section.now }
-        ensures { OnOk result (Meets (place ∷ []) self.old self.new) }
+        ensures { OnOk result (Adds (place ∷ []) self.old self.new) }
     {
         self.note(place)?;
         Ok(())
@@ -64,8 +64,8 @@ impl<'a> WrittenLocations<'a> {
         ensures numbering { OnOk result (IsNumbering self.new) }
         ensures section { OnOk result (self.new.section.now ≡ self.old.section.now) }
         ensures words { OnOk result (further_of self.new ≡ with_word (further_of self.old) (word_of_place self.old.section.now place)) }
-        ensures met { OnOk result (HasMet self.new place) }
-        ensures kept { OnOk result ((k : ℕ) → HasMet self.old k → HasMet self.new k) }
+        ensures added { OnOk result (IsAdded self.new place) }
+        ensures kept { OnOk result ((k : ℕ) → IsAdded self.old k → IsAdded self.new k) }
     {
         if self.numbers[place as usize] == 0 {
             let number = self.number_for(place)?;
@@ -84,7 +84,7 @@ impl<'a> WrittenLocations<'a> {
         ensures words { OnOk result (further_of self.new ≡ with_word (further_of self.old) (word_of_place self.old.section.now place)) }
         ensures number { IfOk result (λ n. n ≡ number_at self.new (word_at self.new place)) }
         ensures held { OnOk result (fixed_number (word_at self.new place) ≡ None → Contains (further_of self.new) (word_at self.new place)) }
-        ensures kept { OnOk result ((k : ℕ) → HasMet self.old k → HasMet self.new k) }
+        ensures kept { OnOk result ((k : ℕ) → IsAdded self.old k → IsAdded self.new k) }
     {
         let word = self.section.word(place);
         if let Some(number) = fixed_number(word) {
@@ -95,11 +95,11 @@ impl<'a> WrittenLocations<'a> {
         Ok(self.section.datums() as usize + id.0)
     }
 
-    /// The number of the word of a place that was met: 0 of the identity, and of a datum with power 1 the datum's.
+    /// The number of the word of a place that was added: 0 of the identity, and of a datum with power 1 the datum's.
     pub fn number(&self, place: u32) -> usize
         requires numbering { IsNumbering self.now }
         requires place { place ≤ length self.now.section.now }
-        requires met { HasMet self.now place }
+        requires added { IsAdded self.now place }
         ensures { result ≡ number_at self.now (word_at self.now place) }
     {
         self.numbers[place as usize]
@@ -122,7 +122,7 @@ impl<'a> WrittenLocations<'a> {
         self.words.word(WordId(i + 1))
     }
 
-    /// The section whose places are met.
+    /// The section whose places are added.
     pub fn section(&self) -> &'a Locations
         ensures { result.now ≡ self.now.section.now }
     {

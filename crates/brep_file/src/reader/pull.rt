@@ -11,7 +11,7 @@ use crate::reader::heading::count_due;
 use crate::reader::locations::LocationsReader;
 use crate::reader::records::RecordsReader;
 use crate::reader::root::RootReader;
-use crate::reader::state::{Bounds, SoFar};
+use crate::reader::state::{RecordBounds, SoFar};
 use crate::uses::FileUse;
 use brep_tokens::{Next, Progress, ReadCode, ReadFault, ReadStop, Scanner, Token};
 use entry_readers::{EntryReader, word_due};
@@ -102,7 +102,11 @@ pub(crate) fn locations(alloc: Global, s: &mut Scanner, count: u64) -> Result<Lo
 }
 
 /// So many records.
-pub(crate) fn records(alloc: Global, s: &mut Scanner, bounds: Bounds) -> Result<SoFar, ReadStop>
+pub(crate) fn records(
+    alloc: Global,
+    s: &mut Scanner,
+    bounds: RecordBounds,
+) -> Result<SoFar, ReadStop>
     requires reading { IsReading s.old }
     requires version { IsVersionRead bounds.version }
     ensures { Gives so_far_of (records_from (bounds_of bounds) nothing_read bounds.records) s.old s.new result }

@@ -1,6 +1,6 @@
 //! The reader of a record.
 ghost use Rattle.brep_file.specs.RecordLeft.{AreFew, IsDoneRecord, IsVersionRead, IsWaitingRecord, ReadsFew, at_record, bounds_of, gathered_of, most_uses, record_left, record_waits_at, so_far_of};
-ghost use Rattle.brep_file.specs.RecordReading.{Bounds as ReadBounds, SoFar as ReadSoFar, record_at, with_record};
+ghost use Rattle.brep_file.specs.RecordReading.{RecordBounds as ReadBounds, SoFar as ReadSoFar, record_at, with_record};
 ghost use Rattle.brep_tokens.specs.declared.text.Token.{Token};
 ghost use Rattle.entry_readers.specs.Reading.{more};
 ghost use Rattle.entry_readers.specs.Takes.{Takes};
@@ -10,13 +10,13 @@ ghost use Rattle.tshape_data.specs.HeadReading.{head_at};
 ghost use Rattle.tshape_data.specs.RepReading.{most_reps};
 ghost use Rattle.tshape_data.specs.Sound.{rep_count};
 
-use crate::reader::state::{Bounds, Gathered, SoFar};
+use crate::reader::state::{Gathered, RecordBounds, SoFar};
 use crate::reader::uses::UsesReader;
 use brep_tokens::{Progress, ReadStop, Token};
 use std::alloc::Global;
 use std::mem;
 use tshape_data::laws::heads_are_exact;
-use tshape_data::{Bounds as Tables, Head, HeadReader};
+use tshape_data::{Head, HeadBounds, HeadReader};
 
 /// Takes the tokens of a record: its head, and then its uses.
 #[derive(Drop)]
@@ -28,7 +28,7 @@ pub(crate) struct RecordReader {
 }
 
 /// A reader of a head after so many representations.
-fn head_reader(alloc: Global, bounds: Bounds, reps: u64) -> HeadReader
+fn head_reader(alloc: Global, bounds: RecordBounds, reps: u64) -> HeadReader
     requires version { IsVersionRead bounds.version }
     requires few { reps ≤ most_reps }
     ensures left { (ts : List Token) → head_left result ts ≡ head_at (record (bounds_of bounds).tables { reps = reps }) bounds.version ts }
@@ -37,7 +37,7 @@ fn head_reader(alloc: Global, bounds: Bounds, reps: u64) -> HeadReader
     ensures few { ReadsFew reps result }
 {
     heads_are_exact();
-    let tables = Tables {
+    let tables = HeadBounds {
         reps,
         ..bounds.tables
     };
@@ -46,7 +46,7 @@ fn head_reader(alloc: Global, bounds: Bounds, reps: u64) -> HeadReader
 
 impl RecordReader {
     /// No token was taken yet, and so many representations stand in the records before.
-    pub(crate) fn new(alloc: Global, bounds: Bounds, reps: u64) -> RecordReader
+    pub(crate) fn new(alloc: Global, bounds: RecordBounds, reps: u64) -> RecordReader
         requires version { IsVersionRead bounds.version }
         requires few { reps ≤ most_reps }
         ensures left { (s : ReadSoFar) (ts : List Token) → s.reps ≡ reps → record_left (bounds_of bounds) s result ts ≡ record_at (bounds_of bounds) s ts }
@@ -65,7 +65,7 @@ impl RecordReader {
     pub(crate) fn take(
         &mut self,
         t: &Token,
-        bounds: Bounds,
+        bounds: RecordBounds,
         so_far: &SoFar,
     ) -> Result<Progress, ReadStop>
         requires own { length so_far.now.seen.items < bounds.records }
@@ -82,7 +82,12 @@ impl RecordReader {
         }
     }
 
-    fn take_head(&mut self, t: &Token, bounds: Bounds, so_far: &SoFar) -> Result<Progress, ReadStop>
+    fn take_head(
+        &mut self,
+        t: &Token,
+        bounds: RecordBounds,
+        so_far: &SoFar,
+    ) -> Result<Progress, ReadStop>
         requires none { self.old.head ≡ None }
         requires version { IsVersionRead bounds.version }
         requires waits { record_waits_at None so_far.now.uses so_far.now.reps self.old }

@@ -8,14 +8,14 @@ ghost use Rattle.entry_readers.specs.Takes.{Takes};
 ghost use Rattle.std.specs.Prelude.{◌≡◌, ◌<◌, List, [], Ok, Err};
 
 use crate::reader::record::RecordReader;
-use crate::reader::state::{Bounds, SoFar};
+use crate::reader::state::{RecordBounds, SoFar};
 use brep_tokens::{Progress, ReadStop, Token};
 use std::alloc::Global;
 
 /// Takes the tokens of so many records. The number that a file claims takes no memory before its records come.
 #[derive(Drop)]
 pub(crate) struct RecordsReader {
-    bounds: Bounds,
+    bounds: RecordBounds,
     so_far: SoFar,
     due: u32,
     reader: RecordReader,
@@ -24,7 +24,7 @@ pub(crate) struct RecordsReader {
 
 impl RecordsReader {
     /// No token was taken yet.
-    pub(crate) fn new(alloc: Global, bounds: Bounds) -> RecordsReader
+    pub(crate) fn new(alloc: Global, bounds: RecordBounds) -> RecordsReader
         requires some { 0 < bounds.records }
         requires version { IsVersionRead bounds.version }
         ensures left { (ts : List Token) → records_left result ts ≡ many_from (record_at (bounds_of bounds)) nothing_read bounds.records ts }

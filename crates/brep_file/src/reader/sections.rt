@@ -7,18 +7,18 @@ ghost use Rattle.std.specs.Prelude.{◌≡◌, ◌≤◌, length};
 
 use crate::file::File;
 use crate::reader::pull::{heading, locations, records, root, section};
-use crate::reader::state::Bounds;
+use crate::reader::state::RecordBounds;
 use crate::records::Records;
 use crate::uses::FileUse;
 use brep_tokens::{ReadStop, Scanner};
 use curve_tables::{Curve2Reader, Curve3Reader};
-use entry_readers::EntryList;
+use lists::ListOf;
 use location_table::Locations;
 use mesh_tables::{MeshReader, Polygon3Reader, PolygonOnMeshReader};
 use orientation::Turn;
 use std::alloc::Global;
 use surface_tables::{SurfaceReader, Surfaces};
-use tshape_data::Bounds as Tables;
+use tshape_data::HeadBounds;
 
 /// A file of which nothing was read but its version.
 pub(crate) fn begun_file(alloc: Global, version: u8) -> File
@@ -27,12 +27,12 @@ pub(crate) fn begun_file(alloc: Global, version: u8) -> File
     File {
         version,
         locations: Locations::new(alloc),
-        curve2s: EntryList::new(alloc),
-        curves: EntryList::new(alloc),
-        polygons: EntryList::new(alloc),
-        polygons_on: EntryList::new(alloc),
+        curve2s: ListOf::new(alloc),
+        curves: ListOf::new(alloc),
+        polygons: ListOf::new(alloc),
+        polygons_on: ListOf::new(alloc),
         surfaces: Surfaces::new(alloc),
-        meshes: EntryList::new(alloc),
+        meshes: ListOf::new(alloc),
         records: Records::new(alloc),
         root: FileUse {
             turn: Turn::Forward,
@@ -59,11 +59,11 @@ fn with_root(s: &mut Scanner, file: File, records: u32) -> Result<File, ReadStop
 }
 
 /// How many entries each table has.
-fn sizes(file: &File) -> Tables
+fn sizes(file: &File) -> HeadBounds
     requires { IsPartRead file.now }
     ensures { result ≡ sizes_of file.now }
 {
-    Tables {
+    HeadBounds {
         locations: file.locations.len(),
         curve2s: file.curve2s.len() as u32,
         curves: file.curves.len() as u32,
@@ -82,7 +82,7 @@ fn with_counted(alloc: Global, s: &mut Scanner, file: File, count: u32) -> Resul
     ensures { Gives (λ f. f) (from_counted file count) s.old s.new result }
 {
     let mut file = file;
-    let bounds = Bounds {
+    let bounds = RecordBounds {
         tables: sizes(&file),
         version: file.version,
         records: count,
@@ -118,7 +118,7 @@ fn with_meshes(alloc: Global, s: &mut Scanner, file: File) -> Result<File, ReadS
     match section::<MeshReader>(alloc, s, b"Triangulations") {
         Err(e) => Err(e),
         Ok(entries) => {
-            file.meshes = EntryList::from_vec(entries);
+            file.meshes = ListOf::from_vec(entries);
             with_records(alloc, s, file)
         }
     }
@@ -150,7 +150,7 @@ fn with_polygons_on(alloc: Global, s: &mut Scanner, file: File) -> Result<File, 
     match section::<PolygonOnMeshReader>(alloc, s, b"PolygonOnTriangulations") {
         Err(e) => Err(e),
         Ok(entries) => {
-            file.polygons_on = EntryList::from_vec(entries);
+            file.polygons_on = ListOf::from_vec(entries);
             with_surfaces(alloc, s, file)
         }
     }
@@ -166,7 +166,7 @@ fn with_polygons(alloc: Global, s: &mut Scanner, file: File) -> Result<File, Rea
     match section::<Polygon3Reader>(alloc, s, b"Polygon3D") {
         Err(e) => Err(e),
         Ok(entries) => {
-            file.polygons = EntryList::from_vec(entries);
+            file.polygons = ListOf::from_vec(entries);
             with_polygons_on(alloc, s, file)
         }
     }
@@ -182,7 +182,7 @@ fn with_curves(alloc: Global, s: &mut Scanner, file: File) -> Result<File, ReadS
     match section::<Curve3Reader>(alloc, s, b"Curves") {
         Err(e) => Err(e),
         Ok(entries) => {
-            file.curves = EntryList::from_vec(entries);
+            file.curves = ListOf::from_vec(entries);
             with_polygons(alloc, s, file)
         }
     }
@@ -198,7 +198,7 @@ fn with_curve2s(alloc: Global, s: &mut Scanner, file: File) -> Result<File, Read
     match section::<Curve2Reader>(alloc, s, b"Curve2ds") {
         Err(e) => Err(e),
         Ok(entries) => {
-            file.curve2s = EntryList::from_vec(entries);
+            file.curve2s = ListOf::from_vec(entries);
             with_curves(alloc, s, file)
         }
     }

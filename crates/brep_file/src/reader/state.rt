@@ -10,15 +10,15 @@ use crate::uses::{FileUse, FileUses};
 use orientation::{Kind, Turn};
 use std::alloc::{AllocError, Global};
 use std::marker::Model;
-use tshape_data::{Bounds as Tables, Head, Payload};
+use tshape_data::{Head, HeadBounds, Payload};
 
 /// How many uses the records of a file may have together.
 pub(crate) const MOST_USES: u32 = 16_777_216;
 
 /// How many entries each table has, which version the file has, and how many records there are.
 #[derive(Clone, Copy)]
-pub(crate) struct Bounds {
-    pub(crate) tables: Tables,
+pub(crate) struct RecordBounds {
+    pub(crate) tables: HeadBounds,
     pub(crate) version: u8,
     pub(crate) records: u32,
 }

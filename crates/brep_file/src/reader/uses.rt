@@ -1,6 +1,6 @@
 //! The reader of a record's uses.
 ghost use Rattle.brep_file.specs.RecordLeft.{AreDoneUses, AreFew, HasRoom, IsWaitingUses, Says, at_uses, bounds_of, gathered_of, most_uses, so_far_of, uses_left};
-ghost use Rattle.brep_file.specs.RecordReading.{Bounds as ReadBounds, SoFar as ReadSoFar, above_at, fitting, is_star, named, named_at, none_gathered, use_of, uses_from};
+ghost use Rattle.brep_file.specs.RecordReading.{RecordBounds as ReadBounds, SoFar as ReadSoFar, above_at, fitting, is_star, named, named_at, none_gathered, use_of, uses_from};
 ghost use Rattle.brep_file.specs.declared.reader.uses.Stage.TheVariants as stages;
 ghost use Rattle.brep_tokens.specs.declared.text.Token.{Token};
 ghost use Rattle.entry_readers.specs.Reading.{more};
@@ -9,7 +9,7 @@ ghost use Rattle.orientation.specs.Kinds.{rank_of};
 ghost use Rattle.orientation.specs.declared.kind.Kind.{Kind};
 ghost use Rattle.std.specs.Prelude.{◌≡◌, ◌+◌, ◌<◌, ◌≤◌, ℕ, List, [], Ok, Err, IfOk, length};
 
-use crate::reader::state::{Bounds, Gathered, MOST_USES, Named, Seen, SoFar};
+use crate::reader::state::{Gathered, MOST_USES, Named, RecordBounds, Seen, SoFar};
 use brep_tokens::{Progress, ReadCode, ReadFault, ReadStop, Token, number};
 use entry_readers::{fault_at, ranged_due};
 use orientation::{Kind, Turn, below, of_sign};
@@ -65,7 +65,13 @@ fn rank(kind: Kind) -> u64
 
 /// A child of a record of the kind `parent`, where so many uses stand before it: its kind is in order, and it is neither too deep nor
 /// one use too many.
-fn fit(bounds: Bounds, parent: Kind, uses: u32, t: &Token, child: Seen) -> Result<Seen, ReadFault>
+fn fit(
+    bounds: RecordBounds,
+    parent: Kind,
+    uses: u32,
+    t: &Token,
+    child: Seen,
+) -> Result<Seen, ReadFault>
     requires { uses ≤ most_uses }
     ensures says { Says (fitting (bounds_of bounds) parent uses t.now child) result }
     ensures shallow { IfOk result (λ c. c.depth < 512) }
@@ -87,7 +93,7 @@ fn fit(bounds: Bounds, parent: Kind, uses: u32, t: &Token, child: Seen) -> Resul
 
 /// A sign with the number of a record above is due.
 fn named_due(
-    bounds: Bounds,
+    bounds: RecordBounds,
     seen: &[Seen],
     parent: Kind,
     uses: u32,
@@ -146,7 +152,7 @@ impl UsesReader {
     pub(crate) fn take(
         &mut self,
         t: &Token,
-        bounds: Bounds,
+        bounds: RecordBounds,
         so_far: &SoFar,
         parent: Kind,
     ) -> Result<Progress, ReadStop>
@@ -164,7 +170,7 @@ impl UsesReader {
     fn take_sign(
         &mut self,
         t: &Token,
-        bounds: Bounds,
+        bounds: RecordBounds,
         so_far: &SoFar,
         parent: Kind,
     ) -> Result<Progress, ReadStop>
@@ -189,7 +195,7 @@ impl UsesReader {
     fn take_location(
         &mut self,
         t: &Token,
-        bounds: Bounds,
+        bounds: RecordBounds,
         so_far: &SoFar,
         parent: Kind,
         named: Named,

@@ -4,7 +4,7 @@ ghost use Rattle.brep_run.specs.Remaining.{AreChanges, IsFileAfter, is_touched, 
 ghost use Rattle.brep_file.specs.Marks.{mark_of};
 ghost use Rattle.std.specs.Prelude.{◌≡◌, IfOk, length};
 
-use brep_file::{File, Record, Records, is_marked};
+use brep_file::{File, Record, Records, is_marked, keep_unmarked};
 use expansion_laws::laws::records_are_trees;
 use std::alloc::{AllocError, Global};
 
@@ -25,7 +25,7 @@ fn leave_out(entry: &mut Record, marks: &[bool], changed: &[bool]) -> bool
         is_marked(marks, used.number as usize) || is_marked(changed, used.number as usize)
     });
     if touched {
-        entry.uses.leave_out(marks);
+        keep_unmarked(&mut entry.uses, marks);
         entry.head.flags.modified = true;
         entry.head.flags.checked = false;
     }

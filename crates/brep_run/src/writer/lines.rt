@@ -8,10 +8,10 @@ ghost use Rattle.expansion_laws.specs.Expansion.{IsNumberOf};
 ghost use Rattle.std.specs.Fmt.{decimal};
 ghost use Rattle.std.specs.List.{flat_map, join_with_byte};
 ghost use Rattle.std.specs.Prelude.{◌≡◌, ◌∷◌, ◌++◌, ◌≤◌, All, OnOk, [], length};
-ghost use Rattle.tshape_data.specs.Places.{places_of};
+ghost use Rattle.tshape_data.specs.Locations.{data_locations};
 ghost use Rattle.tshape_data.specs.Sound.{IsSoundHead};
-ghost use Rattle.tshape_data.specs.declared.bounds.Bounds.{Bounds};
-ghost use Rattle.written_locations.specs.Met.{HasMet, IsNumbering, location_number};
+ghost use Rattle.tshape_data.specs.declared.head_bounds.HeadBounds.{HeadBounds};
+ghost use Rattle.written_locations.specs.Added.{IsAdded, IsNumbering, location_number};
 
 use super::order::Order;
 use brep_file::{FileUse, Record};
@@ -70,7 +70,7 @@ fn push_uses(
     requires numbers { All (λ u. IsNumberOf (length order.now.places.items) u.number) uses.now }
     requires numbering { IsNumbering locations.now }
     requires within { All (λ u. u.location ≤ length locations.now.section.now) uses.now }
-    requires met { All (λ u. HasMet locations.now u.location) uses.now }
+    requires added { All (λ u. IsAdded locations.now u.location) uses.now }
     ensures { OnOk result (text.new.items ≡ text.old.items
         ++ flat_map (λ u. join_with_byte 32 (spell_use (renumbered_use order.now.numbers.items order.now.places.items (location_number locations.now) u)) ++ 32 ∷ []) uses.now) }
 {
@@ -95,14 +95,14 @@ pub(crate) fn push_record(
     order: &Order,
     locations: &WrittenLocations<'_>,
 ) -> Result<(), AllocError>
-    requires sound { (b : Bounds) × IsSoundHead b version source.now.head }
+    requires sound { (b : HeadBounds) × IsSoundHead b version source.now.head }
     requires placed { ArePlaced (length order.now.places.items) order.now.numbers.items order.now.places.items }
     requires numbers { All (λ u. IsNumberOf (length order.now.places.items) u.number) source.now.uses }
     requires numbering { IsNumbering locations.now }
     requires within { All (λ u. u.location ≤ length locations.now.section.now) source.now.uses }
-    requires met { All (λ u. HasMet locations.now u.location) source.now.uses }
-    requires data_within { All (λ place. place ≤ length locations.now.section.now) (places_of version source.now.head.payload) }
-    requires data_met { All (HasMet locations.now) (places_of version source.now.head.payload) }
+    requires added { All (λ u. IsAdded locations.now u.location) source.now.uses }
+    requires data_within { All (λ place. place ≤ length locations.now.section.now) (data_locations version source.now.head.payload) }
+    requires data_added { All (IsAdded locations.now) (data_locations version source.now.head.payload) }
     ensures { OnOk result (text.new.items ≡ text.old.items
         ++ lines_text (record_lines version (renumbered order.now.numbers.items order.now.places.items (location_number locations.now) source.now))) }
 {

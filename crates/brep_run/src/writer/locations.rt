@@ -10,7 +10,7 @@ ghost use Rattle.location_table.specs.declared.entry.LocationEntry.TheVariants.{
 ghost use Rattle.std.specs.Fmt.{decimal, signed_decimal};
 ghost use Rattle.std.specs.List.{flat_map};
 ghost use Rattle.std.specs.Prelude.{◌≡◌, ◌∷◌, ◌++◌, ◌≤◌, All, IfOk, OnOk, [], length, map};
-ghost use Rattle.written_locations.specs.Met.{further_of, IsNumbering, Meets};
+ghost use Rattle.written_locations.specs.Added.{further_of, IsNumbering, Adds};
 
 use super::lines::{push_heading, push_number};
 use super::order::{Order, record_at};
@@ -20,24 +20,27 @@ use itoa::Buffer;
 use location_table::{LocationEntry, Locations};
 use location_words::Pair;
 use std::alloc::{AllocError, Global};
-use tshape_data::laws::places_move;
-use written_heads::meet_head;
+use tshape_data::laws::renumbering_keeps_parts;
+use written_heads::add_head_locations;
 use written_locations::WrittenLocations;
 
-/// The locations of uses are met.
-fn meet_uses(locations: &mut WrittenLocations<'_>, uses: &[FileUse]) -> Result<(), AllocError>
+/// The locations of uses are added.
+fn add_use_locations(
+    locations: &mut WrittenLocations<'_>,
+    uses: &[FileUse],
+) -> Result<(), AllocError>
     requires numbering { IsNumbering locations.old }
     requires within { All (λ u. u.location ≤ length locations.old.section.now) uses.now }
-    ensures { OnOk result (Meets (map (λ u. u.location) uses.now) locations.old locations.new) }
+    ensures { OnOk result (Adds (map (λ u. u.location) uses.now) locations.old locations.new) }
 {
     for used in uses {
-        locations.meet(used.location)?;
+        locations.add(used.location)?;
     }
     Ok(())
 }
 
-/// The locations of the records are met, in the order in which these are written.
-fn meet_records(
+/// The locations of the records are added, in the order in which these are written.
+fn add_record_locations(
     locations: &mut WrittenLocations<'_>,
     file: &File,
     order: &Order,
@@ -46,13 +49,13 @@ fn meet_records(
     requires placed { ArePlaced (length file.now.records) order.now.numbers.items order.now.places.items }
     requires numbering { IsNumbering locations.old }
     requires section { locations.old.section.now ≡ file.now.locations }
-    ensures { OnOk result (Meets (flat_map (locations_of_number file.now) order.now.numbers.items) locations.old locations.new) }
+    ensures { OnOk result (Adds (flat_map (locations_of_number file.now) order.now.numbers.items) locations.old locations.new) }
 {
-    places_move();
+    renumbering_keeps_parts();
     for number in order.numbers() {
         let record = record_at(file, *number as usize);
-        meet_head(locations, &record.head)?;
-        meet_uses(locations, record.uses.as_slice())?;
+        add_head_locations(locations, &record.head)?;
+        add_use_locations(locations, record.uses.as_slice())?;
     }
     Ok(())
 }
@@ -68,8 +71,8 @@ pub(crate) fn locations_in<'a>(
     ensures { IfOk result (AreLocated file.now (locations_used file.now order.now.numbers.items)) }
 {
     let mut locations = WrittenLocations::new(alloc, &file.locations)?;
-    meet_records(&mut locations, file, order)?;
-    locations.meet(file.root.location)?;
+    add_record_locations(&mut locations, file, order)?;
+    locations.add(file.root.location)?;
     Ok(locations)
 }
 

@@ -1,21 +1,22 @@
-use Rattle.std.proofs.Common.{◌≡◌, [], sym, ◌∙◌, refl}
+use Rattle.std.proofs.Common.{◌≢◌, [], refl, sym, ◌∙◌, inl, inr, get_or}
 use Rattle.brep_desk.specs.Shown.{closed}
-use Rattle.brep_desk.specs.Kept.{left_of, use_of, use_in}
-use Rattle.brep_desk.proofs.ChannelLists.{of_channel-past, of_channel-get, of_channel-closed, use_of-open}
+use Rattle.brep_desk.specs.Kept.{left_of, state_of}
+use Rattle.brep_desk.specs.declared.channels.State.TheVariants.{Closed}
+use Rattle.brep_desk.proofs.ChannelLists.{of_channel-past, of_channel-set, of_channel-set_kept, state_in-get, left_in-get, state_over-open}
 use Rattle.brep_desk.proofs.channels.close.Goals as goal
 
-pub returns-then-i-channels-clause-none : goal.returns-then-i-channels-clause-none
-returns-then-i-channels-clause-none c = (refl, of_channel-past use_of closed _ _ c.if-i-channels.true)
+pub returns-then-i-channels-clause-was_open : goal.returns-then-i-channels-clause-was_open
+returns-then-i-channels-clause-was_open c = (λ no _. absurd cc, λ is_open. absurd (is_open (of_channel-past state_of closed _ _ c.if-i-channels.true)))
 
-pub returns-in-Closed-clause-none : goal.returns-in-Closed-clause-none
-returns-in-Closed-clause-none c = (refl, of_channel-get use_of closed _ _ _ _ c.if-i-channels.false c.in-Closed.is)
+pub returns-in-Closed-clause-was_open : goal.returns-in-Closed-clause-was_open
+returns-in-Closed-clause-was_open c = (λ no _. absurd cc, λ is_open. absurd (is_open (state_in-get _ _ _ Closed c.if-i-channels.false c.in-Closed.is)))
 
-pub returns-in_default : goal.returns-in_default
-returns-in_default c =
-    let was : use_of c.replace.result ≡ use_in c.args.channels.now c.args.number = sym (of_channel-get use_of closed _ _ _ _ c.if-i-channels.false (sym c.replace.ensures.value)) in
+pub returns-in-Reading : goal.returns-in-Reading
+returns-in-Reading c =
+    let other : (get_or c.args.channels.now c.args.number c.index-channels-i.result).state ≢ Closed = λ e. elim c.in-Reading.is [ inl r ↦ absurd cc | inr w ↦ absurd cc ] in
     record {
-      none = tt;
-      was = (was, λ e. use_of-open _ c.in_default.not-Closed (sym (of_channel-get use_of closed _ _ _ _ c.if-i-channels.false refl) ∙ sym was ∙ e));
-      opened = of_channel-closed use_of closed _ _ _ c.if-i-channels.false c.replace.ensures.after;
-      left = (of_channel-closed left_of [] _ _ _ c.if-i-channels.false c.replace.ensures.after).others;
+      was_open = (λ _ e. state_over-open _ _ other (sym (state_in-get _ _ _ _ c.if-i-channels.false refl) ∙ e), λ _. refl);
+      unchanged = tt;
+      opened = of_channel-set state_of closed _ _ _ c.if-i-channels.false;
+      left = of_channel-set_kept left_of [] _ _ _ (left_in-get _ _ _ c.if-i-channels.false);
     }

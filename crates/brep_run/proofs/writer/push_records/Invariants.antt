@@ -1,6 +1,6 @@
 use Rattle.std.proofs.Common.{◌≡◌, ◌++◌, take}
 use Rattle.std.specs.List.{flat_map}
-use Rattle.written_locations.specs.Met.{location_number}
+use Rattle.written_locations.specs.Added.{location_number}
 use Rattle.brep_run.specs.Completion.{lines_of_number}
 use Rattle.brep_run.proofs.writer.push_records.Given as goal
 

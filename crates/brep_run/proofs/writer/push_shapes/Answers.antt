@@ -3,21 +3,21 @@ use Rattle.std.specs.Prelude.{ℕ, List, length, codes}
 use Rattle.std.specs.List.{flat_map, join_with_byte}
 use Rattle.std.proofs.lemmas.List.{append_assoc}
 use Rattle.std.proofs.lemmas.List.Elements.{Contains-append_right}
-use Rattle.expansion_laws.proofs.Members.{Contains-here}
+use Rattle.lists.proofs.Members.{Contains-here}
 use Rattle.brep_tokens.specs.Written.{line_text}
 use Rattle.brep_file.specs.declared.uses.FileUse.{FileUse}
 use Rattle.brep_file.specs.Spelling.{spell_use}
 use Rattle.brep_run.specs.Layout.{heading}
-use Rattle.written_locations.specs.Met.{location_number}
+use Rattle.written_locations.specs.Added.{location_number}
 use Rattle.brep_run.specs.Completion.{lines_of_number, locations_of_number, renumbered_use}
 use Rattle.brep_run.proofs.WrittenTexts.{shapes_are}
 use Rattle.brep_run.proofs.writer.push_shapes.Goals as goal
 
-pub number-requires-clause-met : goal.number-requires-clause-met
-number-requires-clause-met c =
+pub number-requires-clause-added : goal.number-requires-clause-added
+number-requires-clause-added c =
     let f = c.args.file.now in
     let numbers = c.args.order.now.numbers.items in
-    c.requires.located.met f.root.location (Contains-append_right (flat_map (locations_of_number f) numbers) (f.root.location ∷ []) f.root.location (Contains-here f.root.location []))
+    c.requires.located.added f.root.location (Contains-append_right (flat_map (locations_of_number f) numbers) (f.root.location ∷ []) f.root.location (Contains-here f.root.location []))
 
 pub returns : goal.returns
 returns c =

@@ -1,11 +1,11 @@
 -- Each request that fits takes the place of the one before.
 use Rattle.std.proofs.Common.{refl, sym, ◌∙◌, ap}
 use Rattle.std.specs.Option.{option_map}
+use Rattle.lists.proofs.Places.{take-map-all}
 use Rattle.expansion_laws.specs.Requests.{match_of}
 use Rattle.expansion_laws.specs.Plain.{shown_tree}
 use Rattle.expansion_laws.specs.SlowRewriting.{shown_request}
 use Rattle.expansion_laws.specs.SlowParts.{context}
-use Rattle.expansion_laws.proofs.Members.{take-map-all}
 use Rattle.expansion_laws.proofs.MovingLemmas.{match-fits, match-other}
 use Rattle.expansion_laws.proofs.requests.last_fitting.Goals.{then-fits, else-fits}
 use Rattle.expansion_laws.proofs.requests.last_fitting.Goals as goal

@@ -2,10 +2,10 @@
 use Rattle.std.proofs.Common.{rules, ◌≡◌, ◌<◌, ◌+◌, ◌-◌, ◌*◌, refl, sym, ◌∙◌, ap, subst, arith, map, [], ◌∷◌, ◌++◌, IfOk, IfErr}
 use Rattle.std.proofs.lemmas.List.{map-append}
 use Rattle.std.specs.Prelude.{take, drop}
+use Rattle.lists.proofs.Places.{map-place, split-at, take-at, take-map-all}
 use Rattle.expansion_laws.specs.Plain.{shown_use}
 use Rattle.expansion_laws.specs.SlowRewriting.{act_of, shown_request}
 use Rattle.expansion_laws.specs.SlowParts.{context, seen_use, step_by, part_of_all, part_of_act, Gives, Refuses}
-use Rattle.expansion_laws.proofs.Members.{take-at, split-at, map-place, take-map-all}
 use Rattle.expansion_laws.proofs.PartLemmas.{gives-less, use-too-big, use-word, use-refused, use-given, match-remaining, match-act, remaining-refused, remaining-given, act-later, act-refused, act-given, none-given, more-given, more-refused}
 use Rattle.expansion_laws.proofs.rewriting.+rewrite.Goals as goal
 

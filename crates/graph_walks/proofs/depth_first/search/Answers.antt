@@ -2,9 +2,9 @@
 use Rattle.std.proofs.Common.{◌≡◌, sym, ◌∙◌, ap, subst, arith, reverse, ◌++◌, ◌∷◌, [], slice_set, Contains}
 use Rattle.std.proofs.lemmas.List.{nil_from_length}
 use Rattle.std.specs.Prelude.{replicate}
+use Rattle.lists.proofs.Places.{slice_get-none}
 use Rattle.graph_walks.specs.declared.depth_first.Mark.TheVariants.{New, OnPath, Done}
 use Rattle.graph_walks.specs.Search.{IsSearch, path_of}
-use Rattle.graph_walks.proofs.Members.{slice_get-none}
 use Rattle.graph_walks.proofs.SearchLaws.{next-edge, on_path, at-node, at-mark, leave, pass, enter}
 use Rattle.graph_walks.proofs.WorkLaws.{work-leave, work-pass, work-enter}
 use Rattle.graph_walks.proofs.Turns.{mark-at, next-within, at-top, pushed, pushed-two, listed, stands, cycle-found, cycle-from, starts, ends}

@@ -2,9 +2,9 @@
 use Rattle.std.proofs.Common.{◌≡◌, ◌<◌, length, slice_index_or, arith, sym, ◌∙◌, ap, subst, ℕ, List, All}
 use Rattle.std.specs.Prelude.{Contains}
 use Rattle.std.proofs.lemmas.List.{length-set, take_all}
+use Rattle.lists.proofs.Members.{Contains-none}
 use Rattle.graph_walks.specs.Walks.{rank_over}
 use Rattle.graph_walks.specs.Graph.{ends_of}
-use Rattle.graph_walks.proofs.Members.{Contains-none}
 use Rattle.graph_walks.proofs.Turns.{ends-within}
 use Rattle.graph_walks.proofs.RankLaws.{rest-zero, others-kept, rank-told, rank-grows}
 use Rattle.graph_walks.proofs.ranking.ranks.Goals as goal

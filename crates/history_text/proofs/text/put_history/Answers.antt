@@ -1,4 +1,4 @@
-use Rattle.std.proofs.Common.{◌≡◌, List, [], ◌∷◌, ◌++◌, map, ap, sym, subst, ◌∙◌, append_assoc, arith, rules}
+use Rattle.std.proofs.Common.{◌++◌}
 use Rattle.history_text.proofs.SendingLaws.{Sends-on, Stopped-first, Stopped-within, Sent-then, Sends-behind}
 use Rattle.history_text.proofs.LineLaws.{first_part, origins_part, modified_part, generated_part, removed_part, last_part, history_parts, with_origins, with_modified, with_generated, with_all}
 use Rattle.history_text.proofs.text.put_history.Goals as goal

@@ -1,4 +1,4 @@
-use Rattle.std.proofs.Common.{◌≡◌, ℕ, ◌+◌, ◌≤◌, ◌<◌, List, [], ◌∷◌, ◌++◌, length, map, take, ap, sym, subst, ◌∙◌, refl, rules, arith}
+use Rattle.std.proofs.Common.{◌≡◌, ℕ, List, [], ◌∷◌, ◌++◌, length, ap, sym, ◌∙◌, arith}
 use Rattle.std.specs.Prelude.{codes}
 use Rattle.std.specs.Fmt.{decimal}
 use Rattle.std.proofs.lemmas.List.{append-nil}
@@ -26,7 +26,7 @@ returns-in_err-put-2-clause-sends g c =
 
 pub loop-origin-preserved : goal.loop-origin-preserved
 loop-origin-preserved g c = record {
-  later = omega (arith, c.loop-origin.invariant.later, c.in_ok-put-2.ensures.later);
+  no_fault = c.in_ok-put-2.ensures.no_fault ∙ c.loop-origin.invariant.no_fault;
   within = (let lt = some_within c.args.origins.now c.loop-origin.at _ c.in-Some.ensures.some in omega (arith, lt));
   sent = Sent-line _ _ _ _ _ _ _ _ (line_text (codes "records" ∷ decimal (length (origin_lines c.args.origins.now)) ∷ [])) (origin_lines c.args.origins.now) c.loop-origin.at _ _
       (let lt = some_within c.args.origins.now c.loop-origin.at _ c.in-Some.ensures.some in omega (arith, lt, length-origin_lines c.args.origins.now))
@@ -43,7 +43,7 @@ loop-origin-init g c =
     let head : c.as_slice.result.now ≡ line_text (codes "records" ∷ decimal (length lines) ∷ []) =
     c.as_slice.ensures.value ∙ c.count_line.ensures ∙ ap (λ k. line_text (codes "records" ∷ decimal k ∷ [])) count in
     record {
-      later = c.in_ok-put.ensures.later;
+      no_fault = c.in_ok-put.ensures.no_fault;
       within = omega arith;
       sent = Sent-as _ _ _ _ _ _ _ _ (head ∙ sym (append-nil (line_text (codes "records" ∷ decimal (length lines) ∷ [])))) c.in_ok-put.ensures.sends;
     }

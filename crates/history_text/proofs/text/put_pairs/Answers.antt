@@ -1,5 +1,4 @@
-use Rattle.std.proofs.Common.{◌≡◌, ℕ, ◌+◌, ◌≤◌, ◌<◌, List, [], ◌∷◌, ◌++◌, length, map, take, ap, sym, subst, ◌∙◌, refl, rules, arith}
-use Rattle.std.specs.Prelude.{codes}
+use Rattle.std.proofs.Common.{◌≡◌, ℕ, List, [], ◌∷◌, ◌++◌, length, map, ap, sym, ◌∙◌, arith}
 use Rattle.std.specs.Fmt.{decimal}
 use Rattle.std.proofs.lemmas.List.{length-map}
 use Rattle.brep_tokens.specs.Written.{line_text, lines_text}
@@ -26,7 +25,7 @@ returns-in_err-put-2-clause-sends g c =
 
 pub loop-pair-preserved : goal.loop-pair-preserved
 loop-pair-preserved g c = record {
-  later = omega (arith, c.loop-pair.invariant.later, c.in_ok-put-2.ensures.later);
+  no_fault = c.in_ok-put-2.ensures.no_fault ∙ c.loop-pair.invariant.no_fault;
   within = (let lt = some_within c.args.pairs.now c.loop-pair.at _ c.in-Some.ensures.some in omega (arith, lt));
   sent = Sent-line _ _ _ _ _ _ _ _ (line_text (c.args.word.now ∷ decimal (length (map pair_words c.args.pairs.now)) ∷ [])) (map pair_words c.args.pairs.now) c.loop-pair.at _ _
       (let lt = some_within c.args.pairs.now c.loop-pair.at _ c.in-Some.ensures.some in omega (arith, lt, length-map c.args.pairs.now pair_words))

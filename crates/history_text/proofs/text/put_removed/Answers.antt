@@ -1,4 +1,4 @@
-use Rattle.std.proofs.Common.{◌≡◌, ℕ, ◌+◌, ◌≤◌, ◌<◌, List, [], ◌∷◌, ◌++◌, length, map, take, ap, sym, subst, ◌∙◌, refl, rules, arith}
+use Rattle.std.proofs.Common.{◌≡◌, ℕ, List, [], ◌∷◌, ◌++◌, length, map, ap, sym, ◌∙◌, arith}
 use Rattle.std.specs.Prelude.{codes}
 use Rattle.std.specs.Fmt.{decimal}
 use Rattle.std.proofs.lemmas.List.{length-map}
@@ -26,7 +26,7 @@ returns-in_err-put-2-clause-sends g c =
 
 pub loop-number-preserved : goal.loop-number-preserved
 loop-number-preserved g c = record {
-  later = omega (arith, c.loop-number.invariant.later, c.in_ok-put-2.ensures.later);
+  no_fault = c.in_ok-put-2.ensures.no_fault ∙ c.loop-number.invariant.no_fault;
   within = (let lt = some_within c.args.removed.now c.loop-number.at _ c.in-Some.ensures.some in omega (arith, lt));
   sent = Sent-line _ _ _ _ _ _ _ _ (line_text (codes "removed" ∷ decimal (length (map number_words c.args.removed.now)) ∷ [])) (map number_words c.args.removed.now) c.loop-number.at _ _
       (let lt = some_within c.args.removed.now c.loop-number.at _ c.in-Some.ensures.some in omega (arith, lt, length-map c.args.removed.now number_words))

@@ -1,15 +1,15 @@
 use Rattle.std.proofs.Common.{◌++◌, sym, ◌∙◌, ap, arith}
 use Rattle.std.proofs.lemmas.Grind.{common_steps}
 use Rattle.tshape_data.specs.Lines.{number_words}
-use Rattle.tshape_data.specs.Places.{moved_edge_rep}
-use Rattle.written_locations.specs.Met.{location_number}
+use Rattle.tshape_data.specs.Locations.{renumbered_edge_rep}
+use Rattle.written_locations.specs.Added.{location_number}
 use Rattle.written_heads.specs.Words.{parameters_text, spaced}
 use Rattle.written_heads.proofs.LineLemmas.{edge_rep_text}
 use Rattle.written_heads.proofs.edges.push_edge_rep.Goals as goal
 
 pub returns : goal.returns
 returns c =
-    let move = location_number c.args.locations.now in
+    let renumber = location_number c.args.locations.now in
     let r = c.args.rep.now in
-    let e = edge_rep_text move c.args.version r ∙ ap (λ t. t ++ (spaced (number_words (moved_edge_rep move r)) ++ parameters_text c.args.version r)) (sym c.form_digit.ensures) in
+    let e = edge_rep_text renumber c.args.version r ∙ ap (λ t. t ++ (spaced (number_words (renumbered_edge_rep renumber r)) ++ parameters_text c.args.version r)) (sym c.form_digit.ensures) in
     rw e (grind (arith, common_steps))

@@ -1,6 +1,6 @@
 use Rattle.std.proofs.Common.{arith}
 use Rattle.std.proofs.lemmas.Grind.{common_steps}
-use Rattle.written_locations.specs.Met.{location_number}
+use Rattle.written_locations.specs.Added.{location_number}
 use Rattle.written_heads.proofs.LineLemmas.{vertex_text}
 use Rattle.written_heads.proofs.heads.push_vertex.Goals as goal
 

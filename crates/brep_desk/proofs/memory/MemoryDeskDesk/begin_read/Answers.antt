@@ -9,12 +9,12 @@ returns-then-contains-clause-refused c = inl (inl (is_to_fail _ _ _ _ _ c.deref-
 
 pub invariant_of-self-in-Ok-1 : goal.invariant_of-self-in-Ok-1
 invariant_of-self-in-Ok-1 c = record {
-  begun = AllBegun-reading _ _ _ _ _ ((c.in-Ok.ensures.begins c.args.self.now.outputs.items 0 0).opened refl) c.args.self.now.begun;
+  begun = AllBegun-reading _ _ _ _ _ ((c.in-Ok.ensures.begins c.args.self.now.outputs.items c.args.self.now.counts c.args.self.now.counts).opened refl) c.args.self.now.begun;
   some = c.args.self.now.some;
 }
 
 pub returns-in-Ok-clause-begins : goal.returns-in-Ok-clause-begins
-returns-in-Ok-clause-begins c = rw c.deref-3.ensures.value at (c.in-Ok.ensures.begins c.args.self.now.outputs.items c.args.self.now.counts.strays c.next_call-call.new.self.strays)
+returns-in-Ok-clause-begins c = rw c.deref-3.ensures.value at (c.in-Ok.ensures.begins c.args.self.now.outputs.items c.args.self.now.counts c.next_call-call.new.self)
 
 pub returns-in-Err-clause-due : goal.returns-in-Err-clause-due
 returns-in-Err-clause-due c cause = (

@@ -9,14 +9,14 @@ returns-then-contains-clause-refused c = inl (inl (is_to_fail _ _ _ _ _ c.deref.
 
 pub invariant_of-self-in-Ok-1 : goal.invariant_of-self-in-Ok-1
 invariant_of-self-in-Ok-1 c =
-    let begins = c.in-Ok.ensures.begins c.args.self.now.files.items 0 0 in
+    let begins = c.in-Ok.ensures.begins c.args.self.now.files.items c.args.self.now.counts c.args.self.now.counts in
     record {
       begun = AllBegun-writing _ _ _ _ _ _ (begins.opened refl) (begins.written refl) c.args.self.now.begun;
       some = c.args.self.now.some;
     }
 
 pub returns-in-Ok-clause-begins : goal.returns-in-Ok-clause-begins
-returns-in-Ok-clause-begins c = c.in-Ok.ensures.begins c.args.self.now.files.items c.args.self.now.counts.strays c.next_call-call.new.self.strays
+returns-in-Ok-clause-begins c = c.in-Ok.ensures.begins c.args.self.now.files.items c.args.self.now.counts c.next_call-call.new.self
 
 pub returns-in-Err-clause-due : goal.returns-in-Err-clause-due
 returns-in-Err-clause-due c cause = (

@@ -1,6 +1,6 @@
 use Rattle.std.proofs.Common.{arith, inl, refl, ap, ◌∙◌}
 use Rattle.std.proofs.lemmas.List.{with_items_is}
-use Rattle.brep_desk.specs.Kept.{use_in}
+use Rattle.brep_desk.specs.Kept.{state_in}
 use Rattle.brep_desk.proofs.Begun.{AllBegun-same}
 use Rattle.brep_desk.proofs.Files.{is_to_fail}
 use Rattle.brep_desk.proofs.memory.MemoryDeskDesk.read.Goals as goal
@@ -10,6 +10,6 @@ returns-then-contains-clause-refused c = inl (is_to_fail _ _ _ _ _ c.deref-2.ens
 
 pub invariant_of-self-in-Some-1 : goal.invariant_of-self-in-Some-1
 invariant_of-self-in-Some-1 c = record {
-  begun = AllBegun-same _ _ _ _ (ap use_in (with_items_is c.args.self.now.channels c.read.new.channels (omega arith)) ∙ c.in-Some.ensures.opened ∙ ap use_in c.deref_mut.ensures.value) refl c.args.self.now.begun;
+  begun = AllBegun-same _ _ _ _ (ap state_in (with_items_is c.args.self.now.channels c.read.new.channels (omega arith)) ∙ c.in-Some.ensures.opened ∙ ap state_in c.deref_mut.ensures.value) refl c.args.self.now.begun;
   some = c.args.self.now.some;
 }

@@ -9,7 +9,7 @@ returns-then-contains-clause-refused c = inl (inl (is_to_fail _ _ _ _ _ c.deref-
 
 pub invariant_of-self-in-Ok-1 : goal.invariant_of-self-in-Ok-1
 invariant_of-self-in-Ok-1 c =
-    let writes = rw c.deref-3.ensures.value at (c.in-Ok.ensures.writes c.args.self.now.files.items 0 0) in
+    let writes = rw c.deref-3.ensures.value at (c.in-Ok.ensures.writes c.args.self.now.files.items c.args.self.now.counts c.args.self.now.counts) in
     let is_open = writes.is_open refl in
     record {
       begun = AllBegun-written _ _ _ _ _ (writes.written refl is_open.0 is_open.1) c.args.self.now.begun;
@@ -17,7 +17,7 @@ invariant_of-self-in-Ok-1 c =
     }
 
 pub returns-in-Ok-clause-writes : goal.returns-in-Ok-clause-writes
-returns-in-Ok-clause-writes c = rw c.deref-3.ensures.value at (c.in-Ok.ensures.writes c.args.self.now.files.items c.args.self.now.counts.strays c.next_call-call.new.self.strays)
+returns-in-Ok-clause-writes c = rw c.deref-3.ensures.value at (c.in-Ok.ensures.writes c.args.self.now.files.items c.args.self.now.counts c.next_call-call.new.self)
 
 pub returns-in-Err-clause-due : goal.returns-in-Err-clause-due
 returns-in-Err-clause-due c cause = (

@@ -1,6 +1,6 @@
 use Rattle.std.proofs.Common.{arith}
 use Rattle.std.proofs.lemmas.Grind.{common_steps}
-use Rattle.written_locations.specs.Met.{location_number}
+use Rattle.written_locations.specs.Added.{location_number}
 use Rattle.brep_run.proofs.LineTexts.{record_text}
 use Rattle.brep_run.proofs.writer.lines.push_record.Goals as goal
 

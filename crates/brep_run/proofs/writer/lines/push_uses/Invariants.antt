@@ -1,6 +1,6 @@
 use Rattle.std.proofs.Common.{◌≡◌, ◌++◌, take}
 use Rattle.std.specs.List.{flat_map}
-use Rattle.written_locations.specs.Met.{location_number}
+use Rattle.written_locations.specs.Added.{location_number}
 use Rattle.brep_run.specs.Completion.{renumbered_use}
 use Rattle.brep_run.proofs.LineTexts.{spaced_use}
 use Rattle.brep_run.proofs.writer.lines.push_uses.Given as goal

@@ -4,7 +4,7 @@ use Rattle.std.proofs.lemmas.List.{append_assoc}
 use Rattle.brep_tokens.specs.Written.{line_text}
 use Rattle.location_table.specs.Locations.{spell_location}
 use Rattle.location_table.specs.Written.{product_of}
-use Rattle.written_locations.specs.Met.{further_of}
+use Rattle.written_locations.specs.Added.{further_of}
 use Rattle.brep_run.proofs.LocationLoops.{words-more}
 use Rattle.brep_run.proofs.writer.locations.push_words.Goals as goal
 

@@ -1,8 +1,8 @@
-use Rattle.std.proofs.Common.{ap, sym, ◌∙◌, List, ℕ, rules}
+use Rattle.std.proofs.Common.{ap, ◌∙◌, rules}
 use Rattle.history_text.specs.Sending.{Waiting}
 use Rattle.history_text.proofs.SendingLaws.{Stopped-gone}
 use Rattle.history_text.proofs.pending.Pending.flush.Goals as goal
 
 pub returns-in-Err-clause-sends : goal.returns-in-Err-clause-sends
 returns-in-Err-clause-sends g c =
-    Stopped-gone _ _ _ _ _ _ c.in-Err.stop.taken _ c.in-Err.ensures.part (c.as_slice.ensures.value ∙ ap (λ (w : Waiting). w.bytes) c.self.view_is) c.in-Err.ensures.stops_early (search rules) c.in-Err.ensures.strays
+    Stopped-gone _ _ _ _ _ _ c.in-Err.stop.taken _ c.in-Err.ensures.part (c.as_slice.ensures.value ∙ ap (λ (w : Waiting). w.bytes) c.self.view_is) c.in-Err.ensures.stops_early (search rules) c.in-Err.ensures.strays c.in-Err.ensures.calls

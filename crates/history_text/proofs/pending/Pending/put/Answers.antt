@@ -1,5 +1,4 @@
-use Rattle.std.proofs.Common.{[], arith, ap, sym, ◌∙◌, ◌++◌, ◌≡◌, rules, List, ℕ, subst}
-use Rattle.std.proofs.lemmas.Grind.{common_steps}
+use Rattle.std.proofs.Common.{[], ap, rules}
 use Rattle.history_text.specs.Sending.{Waiting}
 use Rattle.history_text.proofs.SendingLaws.{Sent-waiting, Stopped-more, Stopped-from, Sends-on}
 use Rattle.history_text.proofs.pending.Pending.put.Goals as goal

@@ -1,10 +1,10 @@
 -- The first nodes alone.
 use Rattle.std.proofs.Common.{◌≤◌, ◌∙◌, sym, ap, subst, take, List, length, slice_get}
+use Rattle.lists.proofs.Places.{map-take}
 use Rattle.shape_pool.specs.declared.held.Held.{Held}
 use Rattle.shape_pool.specs.Rows.{Row, HasPlaces}
 use Rattle.shape_pool.specs.Calls.{Keeps, KeepsLoadedBelow}
 use Rattle.shape_pool.specs.Held.{row_of, rows_of, IsPool}
-use Rattle.shape_pool.proofs.Lists.{map-take}
 use Rattle.shape_pool.proofs.IndexLaws.{IsIndex-take}
 use Rattle.shape_pool.proofs.HandingLaws.{few-held}
 use Rattle.shape_pool.proofs.LoadedLaws.{keeps-loaded-below, IsNoted}

@@ -1,9 +1,9 @@
 -- A number that is noted for an origin is its first, if its node has the origin still.
 use Rattle.std.proofs.Common.{◌∙◌, sym, ap, subst, arith, List, true≢false, slice_get}
 use Rattle.std.specs.Option.{is_some}
+use Rattle.lists.proofs.Places.{given-item, given-none}
 use Rattle.shape_pool.specs.declared.node.NodeId.{NodeId}
 use Rattle.shape_pool.specs.Rows.{Row}
-use Rattle.shape_pool.proofs.Lists.{given-item, given-none}
 use Rattle.shape_pool.proofs.LoadedLaws.{IsNoted, noted-none, noted-some, noted-stale}
 use Rattle.shape_pool.proofs.pool.Pool.named.Goals as goal
 

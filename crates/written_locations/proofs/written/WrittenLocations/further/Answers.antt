@@ -1,5 +1,5 @@
 use Rattle.std.proofs.Common.{arith}
-use Rattle.written_locations.proofs.Meeting.{few-further}
+use Rattle.written_locations.proofs.Adding.{few-further}
 use Rattle.written_locations.proofs.written.WrittenLocations.further.Goals as goal
 
 pub overflow_add-i : goal.overflow_add-i

@@ -1,9 +1,9 @@
 use Rattle.std.proofs.lemmas.Grind.{get_or_default_zero}
 use Rattle.std.proofs.Common.{arith, ◌≤◌, ◌∙◌, ap, sym, subst, length, inl, inr}
 use Rattle.std.specs.Prelude.{ℕ}
-use Rattle.written_locations.specs.Met.{further_of, word_at}
+use Rattle.written_locations.specs.Added.{further_of, word_at}
 use Rattle.written_locations.proofs.Words.{with-known}
-use Rattle.written_locations.proofs.Meeting.{noted-numbering}
+use Rattle.written_locations.proofs.Adding.{noted-numbering}
 use Rattle.written_locations.proofs.written.WrittenLocations.note.Goals as goal
 
 pub returns-in_ok-number-clause-numbering : goal.returns-in_ok-number-clause-numbering

@@ -3,7 +3,7 @@ use Rattle.std.specs.Prelude.{ℕ, List, ◌↔◌, Some, slice_get}
 use Rattle.location_words.specs.Tables.{entered}
 use Rattle.written_locations.specs.Further.{fixed_number}
 use Rattle.written_locations.proofs.Words.{Word}
-use Rattle.written_locations.proofs.Meeting.{entered-numbering, entered-number, entered-fits, entered-held, entered-keeps}
+use Rattle.written_locations.proofs.Adding.{entered-numbering, entered-number, entered-fits, entered-held, entered-keeps}
 use Rattle.written_locations.proofs.written.WrittenLocations.number_for.Goals as goal
 
 pub overflow_add-result : goal.overflow_add-result

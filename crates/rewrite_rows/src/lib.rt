@@ -1,0 +1,7 @@
+//! Tests of whole runs: rewrites by scripts, and files with locations.
+#![tactic(auto)]
+
+#[cfg(test)]
+mod locations;
+#[cfg(test)]
+mod rewrites;

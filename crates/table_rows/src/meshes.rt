@@ -1,0 +1,278 @@
+//! Texts that were written by hand from the format, with the number of tokens counted from it.
+
+use crate::curves::short;
+use brep_tokens::{Decimals, Numbers, Progress, ReadStop, Token, TokenText};
+use entry_readers::{EntryReader, Section};
+use lists::ListOf;
+use mesh_tables::{
+    Mesh, MeshReader, Meshes, Polygon3, Polygon3Reader, PolygonOnMesh, PolygonOnMeshReader,
+    Polygons, PolygonsOn, laws,
+};
+use std::alloc::Global;
+use std::test::Fail;
+
+/// So many entries and the number of their tokens, or why they are not read. The offset of each token is its place.
+fn entries<R: EntryReader>(
+    alloc: Global,
+    due: u64,
+    text: &str,
+) -> Result<Result<(ListOf<R::Entry>, u64), String>, Fail> {
+    if due == 0 {
+        return Ok(Err(String::from_str(alloc, "none due")?));
+    }
+    let mut section = Section::<R>::new(alloc, due);
+    let mut offset = 0u64;
+    for word in text.split_whitespace() {
+        if word.len() > 128 {
+            return Ok(Err(String::from_str(alloc, "too long")?));
+        }
+        let token = Token {
+            offset,
+            text: TokenText::of(word.as_bytes()),
+        };
+        offset = offset.saturating_add(1);
+        match section.take(&token) {
+            Ok(Progress::More) => {}
+            Ok(Progress::Whole) => {
+                return Ok(Ok((ListOf::from_vec(section.done()), offset)));
+            }
+            Err(ReadStop::NoMemory) => {
+                return Ok(Err(String::from_str(alloc, "no memory")?));
+            }
+            Err(ReadStop::Fault(fault)) => {
+                let why = format!(in alloc;
+                    "{:?} {} {} {}",
+                    fault.code, fault.offset, fault.value, fault.limit
+                )?;
+                return Ok(Err(why));
+            }
+        }
+    }
+    Ok(Err(String::from_str(alloc, "more")?))
+}
+
+/// Appends a token.
+fn append(said: &mut String, text: &TokenText) -> Result<(), Fail> {
+    if !said.is_empty() {
+        said.push_str(" ")?;
+    }
+    said.push_str(str::from_utf8(text.bytes()).unwrap_or("?"))?;
+    Ok(())
+}
+
+/// The number of tokens, and the tokens that the polygons are spelled by; or why they are not read.
+fn polygons(alloc: Global, due: u64, text: &str) -> Result<String, Fail> {
+    let (polygons, tokens) = match entries::<Polygon3Reader>(alloc, due, text)? {
+        Ok(read) => read,
+        Err(why) => return Ok(why),
+    };
+    let mut said = format!(in alloc; "{tokens}:")?;
+    for polygon in polygons.as_slice() {
+        let params = if polygon.params { polygon.nodes } else { 0 };
+        if polygon.nodes >= 1000000
+            || polygon.texts.len() as u64 != 1 + 3 * polygon.nodes + params
+        {
+            return Ok(String::from_str(alloc, "not shaped")?);
+        }
+        if !short(&polygon.texts) {
+            return Ok(String::from_str(alloc, "too long")?);
+        }
+        for token in polygon.spell() {
+            append(&mut said, &token)?;
+        }
+    }
+    Ok(said)
+}
+
+/// The same for polygons on meshes.
+fn polygons_on(alloc: Global, due: u64, text: &str) -> Result<String, Fail> {
+    let (polygons, tokens) = match entries::<PolygonOnMeshReader>(alloc, due, text)? {
+        Ok(read) => read,
+        Err(why) => return Ok(why),
+    };
+    let mut said = format!(in alloc; "{tokens}:")?;
+    for polygon in polygons.as_slice() {
+        let params = if polygon.params {
+            polygon.nodes.len()
+        } else {
+            0
+        };
+        if polygon.texts.is_empty() || polygon.texts.len() - 1 != params {
+            return Ok(String::from_str(alloc, "not shaped")?);
+        }
+        if !short(&polygon.texts) {
+            return Ok(String::from_str(alloc, "too long")?);
+        }
+        for token in polygon.spell() {
+            append(&mut said, &token)?;
+        }
+    }
+    Ok(said)
+}
+
+/// The same for meshes.
+fn meshes(alloc: Global, due: u64, text: &str) -> Result<String, Fail> {
+    let (meshes, tokens) = match entries::<MeshReader>(alloc, due, text)? {
+        Ok(read) => read,
+        Err(why) => return Ok(why),
+    };
+    let mut said = format!(in alloc; "{tokens}:")?;
+    for mesh in meshes.as_slice() {
+        if mesh.nodes >= 1000000 || mesh.triangles >= 1000000 {
+            return Ok(String::from_str(alloc, "not small")?);
+        }
+        let params = if mesh.uv { 2 * mesh.nodes } else { 0 };
+        if mesh.texts.len() as u64 != 1 + 3 * mesh.nodes + params
+            || mesh.corners.len() as u64 != 3 * mesh.triangles
+        {
+            return Ok(String::from_str(alloc, "not shaped")?);
+        }
+        if !short(&mesh.texts) {
+            return Ok(String::from_str(alloc, "too long")?);
+        }
+        for token in mesh.spell() {
+            append(&mut said, &token)?;
+        }
+    }
+    Ok(said)
+}
+
+#[test]
+fn polygons_in_space(rt: HostRuntime) -> Result<(), Fail> {
+    for (due, text, want) in [
+        (1, "0 0 5e-3", "3: 0 0 5e-3"),
+        (1, "1 0 0.1 1 2 3", "6: 1 0 0.1 1 2 3"),
+        (1, "1 1 0.1 1 2 3 4 5", "7: 1 1 0.1 1 2 3 4"),
+        (
+            1,
+            "2 1 1e-007 1 2 3 4 5 6 .5 -1.",
+            "11: 2 1 1e-007 1 2 3 4 5 6 .5 -1.",
+        ),
+        (2, "0 1 7 1 0 8 1 2 3", "9: 0 1 7 1 0 8 1 2 3"),
+        (2, "0 1 7", "more"),
+        (1, "1 0 0.1 1 2", "more"),
+        (1, "1 1 0.1 1 2 3", "more"),
+        (1, "999999999999999999 1 0.1 0", "more"),
+        (1, "1000000000000000000 1 0.1", "NumberExpected 0 0 0"),
+        (1, "2. 1 0.1", "NumberExpected 0 0 0"),
+        (1, "2 2 0.1", "FlagExpected 1 0 0"),
+        (1, "1 0 p", "DecimalExpected 2 0 0"),
+        (1, "999999999999999999 1 0.1 +1", "DecimalExpected 3 0 0"),
+        (1, "1 1 0.1 1 2 3 nan", "DecimalExpected 6 0 0"),
+    ] {
+        assert_eq!(rt; polygons(rt.alloc(), due, text)?.as_str(), want, "{text}");
+    }
+    Ok(())
+}
+
+#[test]
+fn polygons_on_meshes(rt: HostRuntime) -> Result<(), Fail> {
+    for (due, text, want) in [
+        (1, "0 p 0.1 0", "4: 0 p 0.1 0"),
+        (1, "3 1 2 3 p 0.1 0", "7: 3 1 2 3 p 0.1 0"),
+        (
+            1,
+            "2 3 4 p 0.1 1 0 6.2831853071795862",
+            "8: 2 3 4 p 0.1 1 0 6.2831853071795862",
+        ),
+        (1, "1 0 p 1 0", "5: 1 0 p 1 0"),
+        (
+            1,
+            "1 999999999999999999 p 1 1 2",
+            "6: 1 999999999999999999 p 1 1 2",
+        ),
+        (2, "0 p 1 1 1 9 p 2 1 3", "10: 0 p 1 1 1 9 p 2 1 3"),
+        (1, "2 1 2 p 0.1 1 5", "more"),
+        (1, "999999999999999999 1 2 3", "more"),
+        (1, "-1", "NumberExpected 0 0 0"),
+        (1, "2 1 p", "NumberExpected 2 0 0"),
+        (1, "1 1 2", "WordExpected 2 0 0"),
+        (1, "0 P", "WordExpected 1 0 0"),
+        (1, "0 p p", "DecimalExpected 2 0 0"),
+        (1, "0 p 1 2", "FlagExpected 3 0 0"),
+        (1, "2 1 1 p 0.1 1 2 p", "DecimalExpected 7 0 0"),
+    ] {
+        assert_eq!(rt;
+            polygons_on(rt.alloc(), due, text)?.as_str(),
+            want,
+            "{text}"
+        );
+    }
+    Ok(())
+}
+
+/// Two triangles on a cylinder.
+const CYLINDER: &str =
+    "4 2 1 0.1 5 0 0 5 0 0 5 0 10 5 0 10 0 0 6.2831853071795862 0 0 10 6.2831853071795862 10 1 2 4 1 4 3";
+
+#[test]
+fn meshes_of_triangles(rt: HostRuntime) -> Result<(), Fail> {
+    let alloc = rt.alloc();
+    let whole = format!(in alloc; "30: {CYLINDER}")?;
+    for (due, text, want) in [
+        (1, CYLINDER, whole.as_str()),
+        (1, "0 0 0 1", "4: 0 0 0 1"),
+        (1, "1 0 0 0.5 1 2 3", "7: 1 0 0 0.5 1 2 3"),
+        (1, "1 0 1 0.5 1 2 3 4 5", "9: 1 0 1 0.5 1 2 3 4 5"),
+        (
+            1,
+            "3 1 0 0.5 0 0 0 1 0 0 0 1 0 3 2 1",
+            "16: 3 1 0 0.5 0 0 0 1 0 0 0 1 0 3 2 1",
+        ),
+        (
+            2,
+            "0 0 1 1 1 1 0 2 1 2 3 1 1 1",
+            "14: 0 0 1 1 1 1 0 2 1 2 3 1 1 1",
+        ),
+        (1, "1 1 0 0.1 1 2 3 1 1", "more"),
+        (1, "999999999999999999 999999999999999999 1 0.1", "more"),
+        (1, "1 x", "NumberExpected 1 0 0"),
+        (1, "1 1 2", "FlagExpected 2 0 0"),
+        (1, "1 1 0 C0", "DecimalExpected 3 0 0"),
+        (1, "1 1 0 0.1 1 2 3 2", "IndexOutOfRange 7 2 1"),
+        (1, "1 1 0 0.1 1 2 3 1 1 0", "IndexOutOfRange 9 0 1"),
+        (1, "0 1 0 0.1 1", "IndexOutOfRange 4 1 0"),
+        (1, "1 1 0 0.1 1 2 3 2.", "NumberExpected 7 0 0"),
+    ] {
+        assert_eq!(rt; meshes(alloc, due, text)?.as_str(), want, "{text}");
+    }
+    Ok(())
+}
+
+#[test]
+fn lists(rt: HostRuntime) -> Result<(), Fail> {
+    let alloc = rt.alloc();
+    let mut polygons = Polygons::new(alloc);
+    assert!(rt; polygons.is_empty());
+    for nodes in [5, 6] {
+        polygons.push(Polygon3 {
+            nodes,
+            params: false,
+            texts: Decimals::new(alloc),
+        })?;
+    }
+    assert!(rt; polygons.len() == 2 && !polygons.is_empty());
+    assert!(rt; matches!(polygons.get(1), Some(polygon) if polygon.nodes == 6));
+    assert!(rt; polygons.get(2).is_none());
+    let on = PolygonsOn::from_vec(vec![in alloc;
+        PolygonOnMesh {
+            nodes: Numbers::new(alloc),
+            params: true,
+            texts: Decimals::new(alloc),
+        },
+    ]?);
+    assert!(rt; on.len() == 1);
+    let meshes = Meshes::from_vec(vec![in alloc;
+        Mesh {
+            nodes: 7,
+            triangles: 0,
+            uv: false,
+            texts: Decimals::new(alloc),
+            corners: Numbers::new(alloc),
+        },
+    ]?);
+    assert!(rt; matches!(meshes.as_slice(), [mesh] if mesh.nodes == 7));
+    laws::meshes_are_exact();
+    laws::meshes_can_be_spelled();
+    Ok(())
+}
