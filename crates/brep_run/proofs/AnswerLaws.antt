@@ -4,7 +4,7 @@ use Rattle.std.specs.Prelude.{◌⊎◌, Option, Result, Ok, Err}
 use Rattle.std.proofs.lemmas.Bool.{lt-ltb, le-ltb}
 use Rattle.brep_desk.specs.Shown.{Shown, Tells}
 use Rattle.brep_desk.specs.Causes.{Rose}
-use Rattle.brep_desk.specs.Whole.{IsLonger}
+use Rattle.brep_desk.specs.Transfers.{IsLonger}
 use Rattle.script_text.specs.Lines.{script_line_count}
 use Rattle.script_text.specs.declared.command.LineFault.{LineFault}
 use Rattle.script_text.specs.declared.command.LineFault.TheVariants as line_faults

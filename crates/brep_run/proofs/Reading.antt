@@ -3,7 +3,7 @@ use Rattle.std.proofs.Common.{◌≡◌, ℕ, inl, inr, List, Some, true, IsTrue
 use Rattle.brep_desk.specs.Shown.{Shown, Tells, ChangesOnly}
 use Rattle.std.specs.Prelude.{Option, is_some}
 use Rattle.brep_desk.specs.Strays.{IsHeldIfTold, KeepsStrays}
-use Rattle.brep_desk.specs.Whole.{NothingWritten, NoMoreOpen}
+use Rattle.brep_desk.specs.Transfers.{NothingWritten, NoMoreOpen}
 use Rattle.brep_run.specs.declared.outcome.Outcome.{Outcome}
 use Rattle.brep_run.specs.declared.outcome.Outcome.TheVariants.{Done, Usage, NotBuilt, Script, Limit, ReadDesk, WriteDesk, NoMemory}
 use Rattle.brep_run.specs.declared.outcome.Outcome.TheVariants as outcomes

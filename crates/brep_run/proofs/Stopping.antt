@@ -1,7 +1,7 @@
 -- A write that was stopped, seen from before the reading.
 use Rattle.std.proofs.Common.{◌≡◌, ℕ, inl, inr, List, Some, take, false, subst, ◌∙◌}
 use Rattle.brep_desk.specs.Shown.{Shown, Tells, ChangesOnly}
-use Rattle.brep_desk.specs.Whole.{NothingWritten}
+use Rattle.brep_desk.specs.Transfers.{NothingWritten}
 use Rattle.brep_run.specs.declared.outcome.Outcome.{Outcome}
 use Rattle.brep_run.specs.declared.outcome.Outcome.TheVariants.{Done, Usage, NotBuilt, Script, Limit, ReadDesk, WriteDesk, NoMemory}
 use Rattle.brep_run.specs.declared.outcome.Outcome.TheVariants as outcomes

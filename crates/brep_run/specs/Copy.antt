@@ -1,7 +1,7 @@
 -- What stands after a copy, whole or stopped.
 use Rattle.std.specs.Prelude.{ℕ, ◌≡◌, ◌⊎◌, ◌≤◌, IsTrue, true, false, List, length, take, Some, Err}
 use Rattle.brep_desk.specs.Shown.{Shown, Tells, ChangesOnly}
-use Rattle.brep_desk.specs.Whole.{NoMoreOpen}
+use Rattle.brep_desk.specs.Transfers.{NoMoreOpen}
 use Rattle.brep_desk.specs.Causes.{Rose}
 use Rattle.brep_tokens.specs.declared.fault.ReadFault.{ReadFault}
 use Rattle.brep_file.specs.declared.file.File.{File}

@@ -34,10 +34,6 @@ abbrev pub OnReadDesk : Outcome → Type 0 → Type 0
 OnReadDesk (ReadDesk before after) P = P
 OnReadDesk _ P = Unit {0}
 
-abbrev pub OnWriteDesk : Outcome → Type 0 → Type 0
-OnWriteDesk (WriteDesk before after file taken) P = P
-OnWriteDesk _ P = Unit {0}
-
 -- of an output whose writing was stopped, and how many bytes of it were taken
 abbrev pub IfStopped : Outcome → (ℕ → ℕ → Type 0) → Type 0
 IfStopped (WriteDesk before after file taken) P = P file taken
@@ -48,6 +44,12 @@ abbrev pub IfDeskFault : Outcome → (ℕ → ℕ → Type 0) → Type 0
 IfDeskFault (ReadDesk before after) P = P before after
 IfDeskFault (WriteDesk before after file taken) P = P before after
 IfDeskFault _ P = Unit {0}
+
+-- of Done and WriteDesk, before which a writing was begun or tried
+abbrev pub OnWriting : Outcome → Type 0 → Type 0
+OnWriting Done P = P
+OnWriting (WriteDesk before after file taken) P = P
+OnWriting _ P = Unit {0}
 
 -- of each outcome but Done and WriteDesk
 abbrev pub UnlessWriting : Outcome → Type 0 → Type 0

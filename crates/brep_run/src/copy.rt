@@ -1,8 +1,9 @@
 //! `copy`: reads a file, and writes it again by the written layout.
 ghost use Rattle.std.specs.Prelude.{◌≡◌, ◌≤◌, ◌+◌, ℕ, List, IsTrue};
 ghost use Rattle.brep_desk.specs.Strays.{KeepsStrays, IsHeldIfTold};
-ghost use Rattle.brep_desk.specs.Whole.{NothingWritten, IsLonger};
-ghost use Rattle.brep_run.specs.Outcomes.{OnDone, OnUsage, OnNotBuilt, IfFile, IfLimit, IfScript, IfStopped, IfDeskFault, UnlessWriting};
+ghost use Rattle.brep_desk.specs.Transfers.{NothingWritten, IsLonger};
+ghost use Rattle.brep_run.specs.Outcomes.{OnDone, OnUsage, OnNotBuilt, OnWriting, IfFile, IfLimit, IfScript, IfStopped, IfDeskFault, UnlessWriting};
+ghost use Rattle.brep_desk.specs.WritingCalls.{KeepsWritingCalls, RoseWritingCalls};
 ghost use Rattle.brep_run.specs.Copy.{Counts, HoldsFault, OutWritten, PrefixWritten, IsDue, most_bytes};
 
 use crate::input::read_input;
@@ -19,6 +20,7 @@ pub(crate) fn write_out<D: Desk>(desk: &mut D, target: &str, text: &[u8]) -> Out
     ensures counts { IfDeskFault result (Counts (D.faults desk.old) (D.faults desk.new)) }
     ensures either { UnlessWriting result ⊥ }
     ensures strays { KeepsStrays D.tells (D.shows desk.old) (D.shows desk.new) }
+    ensures writing_calls { RoseWritingCalls D.tells (D.shows desk.old) (D.shows desk.new) }
 {
     let before = desk.faults();
     let c = match desk.begin_write(target) {
@@ -65,6 +67,8 @@ pub(crate) fn copy<D: Desk>(alloc: Global, desk: &mut D, source: &str, target: &
     ensures script { IfScript result (λ fault. ⊥) }
     ensures usage { OnUsage result ⊥ }
     ensures quiet { UnlessWriting result (NothingWritten D.tells (D.shows desk.old) (D.shows desk.new)) }
+    ensures calls_kept { UnlessWriting result (KeepsWritingCalls D.tells (D.shows desk.old) (D.shows desk.new)) }
+    ensures calls_rose { OnWriting result (RoseWritingCalls D.tells (D.shows desk.old) (D.shows desk.new)) }
     ensures strays { IsHeldIfTold D.tells (D.shows desk.old) source.now → KeepsStrays D.tells (D.shows desk.old) (D.shows desk.new) }
 {
     let input = match read_input(alloc, desk, source) {

@@ -1,12 +1,13 @@
 //! `rewrite`: reads a file and a script, and writes the file after the script's removals and their history.
 ghost use Rattle.std.specs.Prelude.{◌≡◌, ◌≤◌, ◌<◌, ◌^◌, ◌+◌, ℕ, List, All, IfOk, IsTrue, length};
 ghost use Rattle.brep_desk.specs.Strays.{KeepsStrays};
-ghost use Rattle.brep_desk.specs.Whole.{NothingWritten};
+ghost use Rattle.brep_desk.specs.Transfers.{NothingWritten};
 ghost use Rattle.expansion_laws.specs.Expansion.{IsNumberOf};
 ghost use Rattle.expansion_laws.specs.Trees.{Use};
 ghost use Rattle.history_text.specs.HistoryText.{text_of};
+ghost use Rattle.brep_desk.specs.WritingCalls.{KeepsWritingCalls, RoseWritingCalls};
 ghost use Rattle.brep_run.specs.Copy.{Counts, HoldsFault, OutWritten};
-ghost use Rattle.brep_run.specs.Outcomes.{OnDone, OnUsage, OnNotBuilt, IfFile, IfLimit, IfScript, IfStopped, IfDeskFault, UnlessWriting};
+ghost use Rattle.brep_run.specs.Outcomes.{OnDone, OnUsage, OnNotBuilt, OnWriting, IfFile, IfLimit, IfScript, IfStopped, IfDeskFault, UnlessWriting};
 ghost use Rattle.brep_run.specs.Rewrite.{AreTextsOf, BothWritten, InputsAreHeld, IsCountedPrefix, IsOneStopped, IsRefusedLine, IsRewriteLimit, IsRewriteStopped, IsRewriteUnbuilt, IsRewritten};
 ghost use Rattle.brep_file.specs.Sound.{IsSound};
 
@@ -61,6 +62,7 @@ fn write_history<D: Desk>(desk: &mut D, name: &str, history: &HistoryFile) -> Ou
     ensures counts { IfDeskFault result (Counts (D.faults desk.old) (D.faults desk.new)) }
     ensures either { UnlessWriting result ⊥ }
     ensures strays { KeepsStrays D.tells (D.shows desk.old) (D.shows desk.new) }
+    ensures writing_calls { RoseWritingCalls D.tells (D.shows desk.old) (D.shows desk.new) }
 {
     let before = desk.faults();
     let c = match desk.begin_write(name) {
@@ -109,6 +111,7 @@ fn write_both<D: Desk>(
     ensures counts { IfDeskFault result (Counts (D.faults desk.old) (D.faults desk.new)) }
     ensures either { UnlessWriting result ⊥ }
     ensures strays { KeepsStrays D.tells (D.shows desk.old) (D.shows desk.new) }
+    ensures writing_calls { RoseWritingCalls D.tells (D.shows desk.old) (D.shows desk.new) }
 {
     match write_out(desk, target, text) {
         Outcome::Done => write_history(desk, name, history),
@@ -135,6 +138,8 @@ pub(crate) fn rewrite<D: Desk>(
     ensures script { IfScript result (λ fault. IsRefusedLine D.tells (D.shows desk.old) source.now script.now fault) }
     ensures usage { OnUsage result ⊥ }
     ensures quiet { UnlessWriting result (NothingWritten D.tells (D.shows desk.old) (D.shows desk.new)) }
+    ensures calls_kept { UnlessWriting result (KeepsWritingCalls D.tells (D.shows desk.old) (D.shows desk.new)) }
+    ensures calls_rose { OnWriting result (RoseWritingCalls D.tells (D.shows desk.old) (D.shows desk.new)) }
     ensures strays { InputsAreHeld D.tells (D.shows desk.old) source.now script.now → KeepsStrays D.tells (D.shows desk.old) (D.shows desk.new) }
 {
     let input = match read_input(alloc, desk, source) {

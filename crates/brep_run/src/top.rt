@@ -1,10 +1,11 @@
 //! The top call: all that the program does.
 ghost use Rattle.std.specs.Prelude.{◌≡◌};
-ghost use Rattle.brep_desk.specs.Whole.{NothingWritten};
+ghost use Rattle.brep_desk.specs.Transfers.{NothingWritten};
+ghost use Rattle.brep_desk.specs.WritingCalls.{KeepsWritingCalls, RoseWritingCalls};
 ghost use Rattle.brep_run.specs.Answering.{Answers, answer_to};
 ghost use Rattle.brep_run.specs.CommandLine.{HasInput, command_line_of, later, wrong};
 ghost use Rattle.brep_run.specs.Copy.{Counts};
-ghost use Rattle.brep_run.specs.Outcomes.{OnDone, OnUsage, OnNotBuilt, OnReadDesk, IfFile, IfLimit, IfScript, IfStopped, IfDeskFault, UnlessWriting};
+ghost use Rattle.brep_run.specs.Outcomes.{OnDone, OnUsage, OnNotBuilt, OnReadDesk, OnWriting, IfFile, IfLimit, IfScript, IfStopped, IfDeskFault, UnlessWriting};
 ghost use Rattle.brep_run.specs.Runs.{due};
 
 use crate::copy::copy;
@@ -53,6 +54,9 @@ pub fn run<D: Desk, L: Ledger>(
 
     // After each answer but Done and WriteDesk nothing is written, and words that ask for no file touch nothing.
     ensures quiet { UnlessWriting result (NothingWritten D.tells (D.shows desk.old) (D.shows desk.new)) }
+    // Such an answer comes after no call of writing, also none that failed; Done and WriteDesk come after one.
+    ensures calls_kept { UnlessWriting result (KeepsWritingCalls D.tells (D.shows desk.old) (D.shows desk.new)) }
+    ensures calls_rose { OnWriting result (RoseWritingCalls D.tells (D.shows desk.old) (D.shows desk.new)) }
     ensures untouched { (HasInput (command_line_of words.now) → ⊥) → desk.new ≡ desk.old }
     // It makes no stray call, where what it reads is held: of SCRIPT this is asked only where IN holds a file that is read.
     ensures strays { (due D.tells (D.shows desk.old) (D.shows desk.new) words.now).no_strays }
