@@ -126,7 +126,7 @@ module _ (entry exit : ℕ) where
 
   -- where it is told what the names hold
   pub if-told : (b : Bool) (a : Answer) (o : Outcome) → (IsTrue b → Answers o a entry exit) → Answers o (if b then a else untold) entry exit
-  if-told true a o h = h tt
+  if-told true a o h = h refl
   if-told false a o h = tt
 
   module _ (exact : ReadingIsExact) (t : Tells) (old new : Shown) (source : List ℕ) (held : IsTrue t.held) where

@@ -32,7 +32,7 @@ strays-both t a b d one two = λ told. two told ∙ one told
 -- after the file was read, the script is still held
 pub script-held : (t : Tells) (a b : Shown) (source script : List ℕ) (f : File) → NothingWritten t a b → (IsTrue t.held → HoldsFile a source f) → InputsAreHeld t a source script → IsHeldIfTold t b script
 script-held t a b source script f quiet file inputs = λ told.
-    subst (λ (h : List ℕ → Option (List ℕ)). IsTrue (is_some (h script))) (sym quiet.held) (inputs.script f (file told) told)
+    subst (λ (h : List ℕ → Option (List ℕ)). IsTrue (is_some (h script))) (sym quiet.held) (inputs.script_held f (file told) told)
 
 pub closed-both : (a b d : Shown) → NoMoreOpen a b → NoMoreOpen b d → NoMoreOpen a d
 closed-both a b d one two = λ k. elim (two k) [

@@ -62,8 +62,8 @@ IsRewrittenRoot old source script f root = (numbers : List ℕ) × IsAccepted ol
 
 -- Where that is told, the source is held; and where it holds a file that is read, the script is held too.
 pub record InputsAreHeld (t : Tells) (old : Shown) (source script : List ℕ) : Type 0 where
-  pub source : IsHeldIfTold t old source
-  pub script : (f : File) → HoldsFile old source f → IsHeldIfTold t old script
+  pub source_held : IsHeldIfTold t old source
+  pub script_held : (f : File) → HoldsFile old source f → IsHeldIfTold t old script
 
 -- ---- what is written
 

@@ -42,23 +42,23 @@ pub returns-in-Err-read_script-clause-strays : goal.returns-in-Err-read_script-c
 returns-in-Err-read_script-clause-strays g c = λ inputs.
     let first = c.in-Ok.ensures in
     let held = script-held g.D.Desk.tells (g.D.Desk.shows c.args.desk.now) _ c.args.source.now c.args.script.now c.in-Ok.input.file first.quiet first.read inputs in
-    strays-both g.D.Desk.tells (g.D.Desk.shows c.args.desk.now) _ _ (first.strays inputs.source) (c.in-Err-read_script.ensures.strays held)
+    strays-both g.D.Desk.tells (g.D.Desk.shows c.args.desk.now) _ _ (first.strays inputs.source_held) (c.in-Err-read_script.ensures.strays held)
 
 pub returns-in-Err-removed_from-clause-strays : goal.returns-in-Err-removed_from-clause-strays
 returns-in-Err-removed_from-clause-strays g c = λ inputs.
     let first = c.in-Ok.ensures in
     let held = script-held g.D.Desk.tells (g.D.Desk.shows c.args.desk.now) _ c.args.source.now c.args.script.now c.in-Ok.input.file first.quiet first.read inputs in
-    strays-both g.D.Desk.tells (g.D.Desk.shows c.args.desk.now) _ _ (first.strays inputs.source) (c.in-Ok-read_script.ensures.strays held)
+    strays-both g.D.Desk.tells (g.D.Desk.shows c.args.desk.now) _ _ (first.strays inputs.source_held) (c.in-Ok-read_script.ensures.strays held)
 
 pub returns-in-Err-rewriting_of-clause-strays : goal.returns-in-Err-rewriting_of-clause-strays
 returns-in-Err-rewriting_of-clause-strays g c = λ inputs.
     let first = c.in-Ok.ensures in
     let held = script-held g.D.Desk.tells (g.D.Desk.shows c.args.desk.now) _ c.args.source.now c.args.script.now c.in-Ok.input.file first.quiet first.read inputs in
-    strays-both g.D.Desk.tells (g.D.Desk.shows c.args.desk.now) _ _ (first.strays inputs.source) (c.in-Ok-read_script.ensures.strays held)
+    strays-both g.D.Desk.tells (g.D.Desk.shows c.args.desk.now) _ _ (first.strays inputs.source_held) (c.in-Ok-read_script.ensures.strays held)
 
 pub returns-in-Ok-rewriting_of-clause-strays : goal.returns-in-Ok-rewriting_of-clause-strays
 returns-in-Ok-rewriting_of-clause-strays g c = λ inputs.
     let first = c.in-Ok.ensures in
     let held = script-held g.D.Desk.tells (g.D.Desk.shows c.args.desk.now) _ c.args.source.now c.args.script.now c.in-Ok.input.file first.quiet first.read inputs in
-    let both = strays-both g.D.Desk.tells (g.D.Desk.shows c.args.desk.now) _ _ (first.strays inputs.source) (c.in-Ok-read_script.ensures.strays held) in
+    let both = strays-both g.D.Desk.tells (g.D.Desk.shows c.args.desk.now) _ _ (first.strays inputs.source_held) (c.in-Ok-read_script.ensures.strays held) in
     strays-both g.D.Desk.tells (g.D.Desk.shows c.args.desk.now) _ _ both c.write_both.ensures.strays
