@@ -1,6 +1,6 @@
 -- The answer that is due, from why each outcome comes.
-use Rattle.std.proofs.Common.{◌≡◌, ◌<◌, ◌≤◌, ◌+◌, ℕ, Bool, true, false, if◌then◌else◌, List, Some, None, IsTrue, length, inl, inr, refl, sym, ap, subst, ◌∙◌, arith}
-use Rattle.std.specs.Prelude.{◌⊎◌, Option, Result, Ok, Err}
+use Rattle.std.proofs.Common.{◌≡◌, ◌<◌, ◌≤◌, ◌+◌, ℕ, Bool, true, false, if◌then◌else◌, List, Some, IsTrue, length, inl, inr, refl, sym, ap, subst, ◌∙◌, arith}
+use Rattle.std.specs.Prelude.{Result, Ok, Err}
 use Rattle.std.proofs.lemmas.Bool.{lt-ltb, le-ltb}
 use Rattle.brep_desk.specs.Shown.{Shown, Tells}
 use Rattle.brep_desk.specs.Causes.{Rose}
@@ -12,7 +12,6 @@ use Rattle.brep_tokens.specs.declared.fault.ReadFault.{ReadFault}
 use Rattle.brep_file.specs.declared.file.File.{File}
 use Rattle.brep_file.specs.FileReading.{read_text}
 use Rattle.brep_file.specs.ReadingLaws.{ReadingIsExact}
-use Rattle.brep_file.specs.Reads.{Reads}
 use Rattle.brep_file.specs.Sound.{file_limits}
 use Rattle.brep_run.specs.declared.outcome.LimitKind.{LimitKind}
 use Rattle.brep_run.specs.declared.outcome.LimitKind.TheVariants.{FileBytes, ScriptBytes, ScriptLines}
@@ -20,13 +19,12 @@ use Rattle.brep_run.specs.declared.outcome.Outcome.{Outcome}
 use Rattle.brep_run.specs.declared.outcome.Outcome.TheVariants.{Done, Usage, NotBuilt, Script, Limit, ReadDesk, WriteDesk, NoMemory}
 use Rattle.brep_run.specs.declared.outcome.Outcome.TheVariants as outcomes
 use Rattle.brep_run.specs.declared.outcome.ScriptFault.{ScriptFault}
-use Rattle.brep_run.specs.Answering.{Answer, outcome, reading_fails, untold, Answers, answer_for, answer_to, if_file, if_read, if_removals, if_script, line_answer, lines_answer, within}
-use Rattle.brep_run.specs.CommandLine.{CommandLine, copies, rewrites, command_line_of}
+use Rattle.brep_run.specs.Answering.{Answer, outcome, reading_fails, untold, Answers, if_file, if_read, if_removals, if_script, line_answer, lines_answer, within}
 use Rattle.brep_run.specs.Copy.{Counts, Holds, HoldsFault, IsDue, most_bytes}
 use Rattle.brep_run.specs.Outcomes.{OnDone, OnUsage, OnNotBuilt, IfFile, IfLimit, IfScript, IfStopped, IfDeskFault}
 use Rattle.brep_run.specs.Rewrite.{AreDue, HoldsFile, HoldsScript, HasMoreLines, IsRefusedLine, IsRewriteLimit, IsRewriteUnbuilt, given_for, location_count, most_script_bytes, most_script_lines}
 use Rattle.brep_run.specs.Runs.{Due, of_copy, of_rewrite}
-use Rattle.brep_run.specs.Script.{ScriptGiven, removals, faulty, unbuilt, IsRefusedAt, IsTold}
+use Rattle.brep_run.specs.Script.{ScriptGiven, IsRefusedAt, IsTold}
 
 -- ---- what is held
 

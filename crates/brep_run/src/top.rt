@@ -8,11 +8,11 @@ ghost use Rattle.brep_run.specs.Copy.{Counts};
 ghost use Rattle.brep_run.specs.Outcomes.{OnDone, OnUsage, OnNotBuilt, OnReadDesk, OnWriting, IfFile, IfLimit, IfScript, IfStopped, IfDeskFault, UnlessWriting};
 ghost use Rattle.brep_run.specs.Runs.{due};
 
+use crate::command_line::{CommandLine, command_line};
 use crate::copy::copy;
 use crate::laws::texts_stand_for_roots;
 use crate::outcome::Outcome;
 use crate::rewrite::rewrite;
-use crate::command_line::{CommandLine, command_line};
 use brep_desk::{CommandWords, Desk, Steps};
 use brep_file::laws::reading_is_exact;
 use expansion_laws::laws::records_are_trees;

@@ -41,24 +41,21 @@ returns-in-Ok-rewriting_of-clause-stopped g c =
 pub returns-in-Err-read_script-clause-strays : goal.returns-in-Err-read_script-clause-strays
 returns-in-Err-read_script-clause-strays g c = λ inputs.
     let first = c.in-Ok.ensures in
-    let held = script-held g.D.Desk.tells (g.D.Desk.shows c.args.desk.now) _ c.args.source.now c.args.script.now c.in-Ok.input.file first.quiet first.read inputs in
-    strays-both g.D.Desk.tells (g.D.Desk.shows c.args.desk.now) _ _ (first.strays inputs.source_held) (c.in-Err-read_script.ensures.strays held)
+    let held = script-held g.D.Desk.tells (g.D.Desk.shows c.args.desk.now) (g.D.Desk.shows c.read_input.new.desk) c.args.source.now c.args.script.now c.in-Ok.input.file first.quiet first.read inputs in
+    strays-both g.D.Desk.tells (g.D.Desk.shows c.args.desk.now) (g.D.Desk.shows c.read_input.new.desk) (g.D.Desk.shows c.read_script.new.desk) (first.strays inputs.source_held) (c.in-Err-read_script.ensures.strays held)
 
 pub returns-in-Err-removed_from-clause-strays : goal.returns-in-Err-removed_from-clause-strays
 returns-in-Err-removed_from-clause-strays g c = λ inputs.
     let first = c.in-Ok.ensures in
-    let held = script-held g.D.Desk.tells (g.D.Desk.shows c.args.desk.now) _ c.args.source.now c.args.script.now c.in-Ok.input.file first.quiet first.read inputs in
-    strays-both g.D.Desk.tells (g.D.Desk.shows c.args.desk.now) _ _ (first.strays inputs.source_held) (c.in-Ok-read_script.ensures.strays held)
-
-pub returns-in-Err-rewriting_of-clause-strays : goal.returns-in-Err-rewriting_of-clause-strays
-returns-in-Err-rewriting_of-clause-strays g c = λ inputs.
-    let first = c.in-Ok.ensures in
-    let held = script-held g.D.Desk.tells (g.D.Desk.shows c.args.desk.now) _ c.args.source.now c.args.script.now c.in-Ok.input.file first.quiet first.read inputs in
-    strays-both g.D.Desk.tells (g.D.Desk.shows c.args.desk.now) _ _ (first.strays inputs.source_held) (c.in-Ok-read_script.ensures.strays held)
+    let held = script-held g.D.Desk.tells (g.D.Desk.shows c.args.desk.now) (g.D.Desk.shows c.read_input.new.desk) c.args.source.now c.args.script.now c.in-Ok.input.file first.quiet first.read inputs in
+    strays-both g.D.Desk.tells (g.D.Desk.shows c.args.desk.now) (g.D.Desk.shows c.read_input.new.desk) (g.D.Desk.shows c.read_script.new.desk) (first.strays inputs.source_held) (c.in-Ok-read_script.ensures.strays held)
 
 pub returns-in-Ok-rewriting_of-clause-strays : goal.returns-in-Ok-rewriting_of-clause-strays
 returns-in-Ok-rewriting_of-clause-strays g c = λ inputs.
     let first = c.in-Ok.ensures in
-    let held = script-held g.D.Desk.tells (g.D.Desk.shows c.args.desk.now) _ c.args.source.now c.args.script.now c.in-Ok.input.file first.quiet first.read inputs in
-    let both = strays-both g.D.Desk.tells (g.D.Desk.shows c.args.desk.now) _ _ (first.strays inputs.source_held) (c.in-Ok-read_script.ensures.strays held) in
-    strays-both g.D.Desk.tells (g.D.Desk.shows c.args.desk.now) _ _ both c.write_both.ensures.strays
+    let held = script-held g.D.Desk.tells (g.D.Desk.shows c.args.desk.now) (g.D.Desk.shows c.read_input.new.desk) c.args.source.now c.args.script.now c.in-Ok.input.file first.quiet first.read inputs in
+    let both = strays-both g.D.Desk.tells (g.D.Desk.shows c.args.desk.now) (g.D.Desk.shows c.read_input.new.desk) (g.D.Desk.shows c.read_script.new.desk) (first.strays inputs.source_held) (c.in-Ok-read_script.ensures.strays held) in
+    strays-both g.D.Desk.tells (g.D.Desk.shows c.args.desk.now) (g.D.Desk.shows c.read_script.new.desk) (g.D.Desk.shows c.write_both.new.desk) both c.write_both.ensures.strays
+
+pub returns-in-Err-clause-strays : goal.returns-in-Err-clause-strays
+returns-in-Err-clause-strays g c = λ inputs. c.in-Err.ensures.strays inputs.source_held

@@ -3,7 +3,8 @@ use Rattle.brep_file.specs.PlainRecords.{plain_records, plain_root}
 use Rattle.brep_run.specs.Answering.{Answers, answer_for}
 use Rattle.brep_run.specs.CommandLine.{command_line_of}
 use Rattle.brep_run.specs.Outcomes.{OnDone}
-use Rattle.brep_run.specs.Runs.{due_of, of_copy, of_rewrite}
+use Rattle.brep_run.specs.Rewrite.{IsRewrittenRoot}
+use Rattle.brep_run.specs.Runs.{IsCopiedRoot, due_of}
 use Rattle.brep_run.proofs.Answered.{OnDone-weaker}
 use Rattle.brep_run.proofs.AnswerLaws.{copy-answers, if-told, rewrite-answers}
 use Rattle.brep_run.proofs.CopyLemmas.{file-sound}
@@ -22,8 +23,8 @@ pub returns-in-Copy-clause-shares : goal.returns-in-Copy-clause-shares
 returns-in-Copy-clause-shares g c =
     let line = ap command_line_of (sym c.as_slice.ensures) ∙ c.in-Copy.ensures in
     subst (λ l. OnDone c.copy.result (due_of g.D.Desk.tells (g.D.Desk.shows c.args.desk.now) (g.D.Desk.shows c.copy.new.desk) l).shares) (sym line)
-    (OnDone-weaker _ _ (λ done. expands-shares (λ f sound. c.records_are_trees.ensures (plain_records f) (plain_root f) (file-sound f sound)) g.D.Desk.tells _ _ _
-    (copy-expands c.texts_stand_for_roots.ensures g.D.Desk.tells _ _ c.in-Copy.source.now c.in-Copy.target.now done)) c.copy.result c.copy.ensures.done)
+    (OnDone-weaker _ _ (λ done. expands-shares (λ f sound. c.records_are_trees.ensures (plain_records f) (plain_root f) (file-sound f sound)) g.D.Desk.tells (g.D.Desk.shows c.copy.new.desk) c.in-Copy.target.now (IsCopiedRoot (g.D.Desk.shows c.args.desk.now) c.in-Copy.source.now)
+    (copy-expands c.texts_stand_for_roots.ensures g.D.Desk.tells (g.D.Desk.shows c.args.desk.now) (g.D.Desk.shows c.copy.new.desk) c.in-Copy.source.now c.in-Copy.target.now done)) c.copy.result c.copy.ensures.done)
 
 pub returns-in-Copy-clause-due : goal.returns-in-Copy-clause-due
 returns-in-Copy-clause-due g c =
@@ -43,8 +44,8 @@ pub returns-in-Rewrite-clause-shares : goal.returns-in-Rewrite-clause-shares
 returns-in-Rewrite-clause-shares g c =
     let line = ap command_line_of (sym c.as_slice.ensures) ∙ c.in-Rewrite.ensures in
     subst (λ l. OnDone c.rewrite.result (due_of g.D.Desk.tells (g.D.Desk.shows c.args.desk.now) (g.D.Desk.shows c.rewrite.new.desk) l).shares) (sym line)
-    (OnDone-weaker _ _ (λ done. expands-shares (λ f sound. c.records_are_trees.ensures (plain_records f) (plain_root f) (file-sound f sound)) g.D.Desk.tells _ _ _
-    (rewrite-expands g.D.Desk.tells _ _ _ _ _ _ (written-apart _ _ _ _ _ line) done)) c.rewrite.result c.rewrite.ensures.done)
+    (OnDone-weaker _ _ (λ done. expands-shares (λ f sound. c.records_are_trees.ensures (plain_records f) (plain_root f) (file-sound f sound)) g.D.Desk.tells (g.D.Desk.shows c.rewrite.new.desk) c.in-Rewrite.target.now (IsRewrittenRoot (g.D.Desk.shows c.args.desk.now) c.in-Rewrite.source.now c.in-Rewrite.script.now)
+    (rewrite-expands g.D.Desk.tells (g.D.Desk.shows c.args.desk.now) (g.D.Desk.shows c.rewrite.new.desk) c.in-Rewrite.source.now c.in-Rewrite.script.now c.in-Rewrite.target.now c.in-Rewrite.history.now (written-apart _ _ _ _ _ line) done)) c.rewrite.result c.rewrite.ensures.done)
 
 pub returns-in-Rewrite-clause-due : goal.returns-in-Rewrite-clause-due
 returns-in-Rewrite-clause-due g c =
