@@ -35,4 +35,4 @@ pub mod RewriteLaws
 pub mod WordLaws
 pub mod Reading
 pub mod ReadFiles
-pub mod FaultLaws
+pub mod AnswerLaws

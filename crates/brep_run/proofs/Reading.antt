@@ -1,7 +1,9 @@
 -- What was read first is still held, and nothing was written since.
 use Rattle.std.proofs.Common.{◌≡◌, ℕ, inl, inr, List, Some, true, IsTrue, sym, ap, subst, ◌∙◌}
 use Rattle.brep_desk.specs.Shown.{Shown, Tells, ChangesOnly}
-use Rattle.brep_desk.specs.Whole.{NothingWritten, NoMoreOpen}
+use Rattle.std.specs.Prelude.{Option, is_some}
+use Rattle.brep_desk.specs.Strays.{IsHeldIfTold, KeepsStrays}
+use Rattle.brep_desk.specs.Transfers.{NothingWritten, NoMoreOpen}
 use Rattle.brep_run.specs.declared.outcome.Outcome.{Outcome}
 use Rattle.brep_run.specs.declared.outcome.Outcome.TheVariants.{Done, Usage, NotBuilt, Script, Limit, ReadDesk, WriteDesk, NoMemory}
 use Rattle.brep_run.specs.declared.outcome.Outcome.TheVariants as outcomes
@@ -9,12 +11,12 @@ use Rattle.expansion_laws.specs.Trees.{Use}
 use Rattle.brep_file.specs.declared.file.File.{File}
 use Rattle.brep_run.specs.declared.outcome.LimitKind.{LimitKind}
 use Rattle.brep_run.specs.declared.outcome.LimitKind.TheVariants.{FileBytes, ScriptBytes, ScriptLines}
-use Rattle.brep_run.specs.Outcomes.{OnDone, OnNotBuilt, IfLimit, IfScript, IfWriteDesk}
+use Rattle.brep_run.specs.Outcomes.{OnDone, OnNotBuilt, IfLimit, IfScript, IfStopped}
 use Rattle.brep_run.specs.Copy.{IsDue, OutWritten}
 use Rattle.brep_file.specs.PlainRecords.{expansion_of}
 use Rattle.brep_run.specs.WrittenFile.{text_of}
 use Rattle.brep_run.specs.Inputs.{IsLinesStop, IsScriptLimit, IsScriptStop}
-use Rattle.brep_run.specs.Rewrite.{AreDue, AreTextsOf, BothWritten, HoldsFile, HoldsScript, IsRefusedLine, IsRewriteLimit, IsRewriteUnbuilt, IsRewritten, IsOneStopped, IsRewriteStopped, given_for}
+use Rattle.brep_run.specs.Rewrite.{AreDue, AreTextsOf, BothWritten, HoldsFile, HoldsScript, InputsAreHeld, IsRefusedLine, IsRewriteLimit, IsRewriteUnbuilt, IsRewritten, IsOneStopped, IsRewriteStopped, given_for}
 use Rattle.brep_run.specs.Script.{removals}
 use Rattle.brep_run.proofs.Stopping.{prefix_after}
 
@@ -23,6 +25,14 @@ held-before t old new name bytes quiet is = sym (ap (λ f. f name) quiet.held) �
 
 pub quiet-both : (t : Tells) (a b d : Shown) → NothingWritten t a b → NothingWritten t b d → NothingWritten t a d
 quiet-both t a b d one two = record { held = two.held ∙ one.held; written = λ w. two.written w ∙ one.written w; ended = λ w. two.ended w ∙ one.ended w }
+
+pub strays-both : (t : Tells) (a b d : Shown) → KeepsStrays t a b → KeepsStrays t b d → KeepsStrays t a d
+strays-both t a b d one two = λ told. two told ∙ one told
+
+-- after the file was read, the script is still held
+pub script-held : (t : Tells) (a b : Shown) (source script : List ℕ) (f : File) → NothingWritten t a b → (IsTrue t.held → HoldsFile a source f) → InputsAreHeld t a source script → IsHeldIfTold t b script
+script-held t a b source script f quiet file inputs = λ told.
+    subst (λ (h : List ℕ → Option (List ℕ)). IsTrue (is_some (h script))) (sym quiet.held) (inputs.script_held f (file told) told)
 
 pub closed-both : (a b d : Shown) → NoMoreOpen a b → NoMoreOpen b d → NoMoreOpen a d
 closed-both a b d one two = λ k. elim (two k) [
@@ -69,8 +79,8 @@ module _ (t : Tells) (a b new : Shown) (quiet : NothingWritten t a b) (closed : 
   done-after (WriteDesk before after file taken) h = tt
   done-after NoMemory h = tt
 
-  pub stopped-after : (o : Outcome) → IfWriteDesk o (λ before after file taken. IsOneStopped t b new target text history told file taken) →
-      IfWriteDesk o (λ before after file taken. IsRewriteStopped t a new source script target history file taken)
+  pub stopped-after : (o : Outcome) → IfStopped o (λ file taken. IsOneStopped t b new target text history told file taken) →
+      IfStopped o (λ file taken. IsRewriteStopped t a new source script target history file taken)
   stopped-after Done h = tt
   stopped-after Usage h = tt
   stopped-after NotBuilt h = tt

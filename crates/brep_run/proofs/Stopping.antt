@@ -1,11 +1,11 @@
 -- A write that was stopped, seen from before the reading.
 use Rattle.std.proofs.Common.{◌≡◌, ℕ, inl, inr, List, Some, take, false, subst, ◌∙◌}
 use Rattle.brep_desk.specs.Shown.{Shown, Tells, ChangesOnly}
-use Rattle.brep_desk.specs.Whole.{NothingWritten}
+use Rattle.brep_desk.specs.Transfers.{NothingWritten}
 use Rattle.brep_run.specs.declared.outcome.Outcome.{Outcome}
 use Rattle.brep_run.specs.declared.outcome.Outcome.TheVariants.{Done, Usage, NotBuilt, Script, Limit, ReadDesk, WriteDesk, NoMemory}
 use Rattle.brep_run.specs.declared.outcome.Outcome.TheVariants as outcomes
-use Rattle.brep_run.specs.Outcomes.{IfWriteDesk}
+use Rattle.brep_run.specs.Outcomes.{IfStopped}
 use Rattle.brep_run.specs.Copy.{PrefixWritten, IsDue}
 
 module _ (t : Tells) (a b d : Shown) (source name text : List ℕ) (quiet : NothingWritten t a b) where
@@ -23,8 +23,8 @@ module _ (t : Tells) (a b d : Shown) (source name text : List ℕ) (quiet : Noth
   }
 
   pub stopped_after : IsDue t a source text → (o : Outcome) →
-      IfWriteDesk o (λ before after file taken. (file ≡ 1) × PrefixWritten t b d name text taken) →
-      IfWriteDesk o (λ before after file taken. (file ≡ 1) × ((text : List ℕ) × IsDue t a source text × PrefixWritten t a d name text taken))
+      IfStopped o (λ file taken. (file ≡ 1) × PrefixWritten t b d name text taken) →
+      IfStopped o (λ file taken. (file ≡ 1) × ((text : List ℕ) × IsDue t a source text × PrefixWritten t a d name text taken))
   stopped_after due Done h = tt
   stopped_after due Usage h = tt
   stopped_after due NotBuilt h = tt

@@ -2,7 +2,7 @@
 use Rattle.std.proofs.Common.{◌≡◌, ℕ, List, [], ◌∷◌, Bool, true, false, if◌then◌else◌, refl, sym, subst, ◌∙◌}
 use Rattle.std.proofs.lemmas.Bool.{eq-eqb}
 use Rattle.std.specs.Prelude.{◌≢◌, ◌&&◌, not, codes}
-use Rattle.brep_run.specs.Words.{copies, rewrites, later, wrong, is_word, may_copy, may_rewrite, copy_of_names, rewrite_of_names, is_later, asked_of}
+use Rattle.brep_run.specs.CommandLine.{copies, rewrites, later, wrong, is_word, may_copy, may_rewrite, copy_of_names, rewrite_of_names, is_later, command_line_of}
 
 text-same : (a : List ℕ) → is_word a a ≡ true
 text-same [] = refl
@@ -52,7 +52,7 @@ module _ (s p t h : List ℕ) where
   pick false false true rest e = cc
   pick false false false rest e = cc
 
-  pub written-apart : (words : List (List ℕ)) → asked_of words ≡ rewrites s p t h → t ≢ h
-  unfolding asked_of
+  pub written-apart : (words : List (List ℕ)) → command_line_of words ≡ rewrites s p t h → t ≢ h
+  unfolding command_line_of
   written-apart [] e = cc
   written-apart (w ∷ rest) e = pick (is_word w (codes "copy")) (is_word w (codes "rewrite")) (is_later w) rest e

@@ -4,7 +4,7 @@ use Rattle.std.proofs.lemmas.List.{take_all}
 use Rattle.std.proofs.lemmas.Bool.{cases_eq}
 use Rattle.brep_desk.specs.Shown.{writing, Shown, Tells, AreTold, ChangesOnly, Same}
 use Rattle.brep_desk.specs.Calls.{BeginsWriting, Ends, EndsName}
-use Rattle.brep_desk.specs.Whole.{Appended, NoMoreOpen}
+use Rattle.brep_desk.specs.Transfers.{Appended, NoMoreOpen}
 use Rattle.brep_run.specs.Copy.{OutWritten, PrefixWritten, StoppedAt}
 
 module _ (t : Tells) (told : AreTold t) (a b d : Shown) (name : List ℕ) (c : ℕ) (text : List ℕ) (n : ℕ) (begins : BeginsWriting t a b name c) (app : Appended t b d c text n) where

@@ -1,16 +1,15 @@
 -- What stands after a copy, whole or stopped.
 use Rattle.std.specs.Prelude.{ℕ, ◌≡◌, ◌⊎◌, ◌≤◌, IsTrue, true, false, List, length, take, Some, Err}
 use Rattle.brep_desk.specs.Shown.{Shown, Tells, ChangesOnly}
-use Rattle.brep_desk.specs.Whole.{NoMoreOpen}
+use Rattle.brep_desk.specs.Transfers.{NoMoreOpen}
 use Rattle.brep_desk.specs.Causes.{Rose}
 use Rattle.brep_tokens.specs.declared.fault.ReadFault.{ReadFault}
 use Rattle.brep_file.specs.declared.file.File.{File}
 use Rattle.brep_file.specs.FileReading.{read_text}
 use Rattle.brep_file.specs.Sound.{file_limits}
 use Rattle.brep_file.specs.PlainRecords.{expansion_of}
-use Rattle.brep_file.specs.Reads.{Reads, Spells}
+use Rattle.brep_file.specs.Reads.{Reads}
 use Rattle.brep_run.specs.WrittenFile.{text_of}
-use Rattle.brep_run.specs.Copies.{IsTextFor, SharesEqualTrees}
 
 -- the greatest number of bytes of a file
 abbrev pub most_bytes : ℕ
@@ -59,23 +58,6 @@ pub record HoldsFault (old : Shown) (source : List ℕ) (fault : ReadFault) : Ty
 
 abbrev pub IsDue : Tells → Shown → List ℕ → List ℕ → Type 0
 IsDue t old source text = IsTrue t.held → (bytes : List ℕ) × (f : File) × Holds old source bytes × IsCopyOf bytes text f
-
--- what stands for a copy: the bytes that were held, the text that was written, and the file that the bytes are
-pub record IsMade (t : Tells) (old new : Shown) (source target bytes text : List ℕ) (f : File) : Type 0 where
-  pub told : IsTrue t.held × IsTrue t.written
-  pub held : old.held source ≡ Some bytes
-  pub reads : Reads bytes f
-  pub written : new.written target ≡ Some text
-
--- The written text spells one file, whose full expansion is the dressed expansion of the file that was read.
-abbrev pub CopyExpands : Tells → Shown → Shown → List ℕ → List ℕ → Type 0
-CopyExpands t old new source target =
-    (bytes text : List ℕ) (f : File) → IsMade t old new source target bytes text f → IsTextFor f (expansion_of f) text
-
--- In the file that the written text spells two occurrences go through one record exactly where their trees are equal.
-abbrev pub CopyShares : Tells → Shown → Shown → List ℕ → List ℕ → Type 0
-CopyShares t old new source target =
-    (bytes text : List ℕ) (f g : File) → IsMade t old new source target bytes text f → Spells text g → SharesEqualTrees (expansion_of f) g
 
 -- the counts of a fault: after the one at entry, and up to the one at exit
 pub record Counts (entry exit before after : ℕ) : Type 0 where

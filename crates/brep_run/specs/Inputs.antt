@@ -1,7 +1,7 @@
 -- What reading the inputs of a run gives, and why it stops, by the outcome that it is told as.
 use Rattle.std.specs.Prelude.{◌≡◌, ℕ, ◌+◌, IsTrue, List, length}
 use Rattle.brep_desk.specs.Shown.{Shown, Tells}
-use Rattle.brep_desk.specs.Whole.{IsLonger}
+use Rattle.brep_desk.specs.Transfers.{IsLonger}
 use Rattle.brep_file.specs.declared.file.File.{File}
 use Rattle.brep_run.specs.declared.outcome.Outcome.{Outcome}
 use Rattle.brep_run.specs.declared.outcome.Outcome.TheVariants as outcomes

@@ -2,8 +2,7 @@ pub mod Dress
 pub mod Layout
 pub mod WrittenFile
 pub mod Copies
-pub mod Words
-pub mod Asking
+pub mod CommandLine
 pub mod Outcomes
 pub mod Messages
 pub mod Copy
@@ -13,4 +12,5 @@ pub mod Remaining
 pub mod Removal
 pub mod Rewrite
 pub mod Inputs
+pub mod Answering
 pub mod Runs

@@ -30,24 +30,32 @@ abbrev pub IfLimit : Outcome → (LimitKind → ℕ → Type 0) → Type 0
 IfLimit (Limit which count) P = P which count
 IfLimit _ P = Unit {0}
 
-abbrev pub IfReadDesk : Outcome → (ℕ → ℕ → Type 0) → Type 0
-IfReadDesk (ReadDesk before after) P = P before after
-IfReadDesk _ P = Unit {0}
+abbrev pub OnReadDesk : Outcome → Type 0 → Type 0
+OnReadDesk (ReadDesk before after) P = P
+OnReadDesk _ P = Unit {0}
 
-abbrev pub IfWriteDesk : Outcome → (ℕ → ℕ → ℕ → ℕ → Type 0) → Type 0
-IfWriteDesk (WriteDesk before after file taken) P = P before after file taken
-IfWriteDesk _ P = Unit {0}
+-- of an output whose writing was stopped, and how many bytes of it were taken
+abbrev pub IfStopped : Outcome → (ℕ → ℕ → Type 0) → Type 0
+IfStopped (WriteDesk before after file taken) P = P file taken
+IfStopped _ P = Unit {0}
+
+-- of the counts of a fault of the desk, in reading or in writing
+abbrev pub IfDeskFault : Outcome → (ℕ → ℕ → Type 0) → Type 0
+IfDeskFault (ReadDesk before after) P = P before after
+IfDeskFault (WriteDesk before after file taken) P = P before after
+IfDeskFault _ P = Unit {0}
+
+-- of Done and WriteDesk, before which a writing was begun or tried
+abbrev pub OnWriting : Outcome → Type 0 → Type 0
+OnWriting Done P = P
+OnWriting (WriteDesk before after file taken) P = P
+OnWriting _ P = Unit {0}
 
 -- of each outcome but Done and WriteDesk
 abbrev pub UnlessWriting : Outcome → Type 0 → Type 0
 UnlessWriting Done P = Unit {0}
 UnlessWriting (WriteDesk before after file taken) P = Unit {0}
 UnlessWriting _ P = P
-
-abbrev pub IsDoneOrNoMemory : Outcome → Type 0
-IsDoneOrNoMemory Done = Unit {0}
-IsDoneOrNoMemory NoMemory = Unit {0}
-IsDoneOrNoMemory _ = ⊥
 
 abbrev pub IsReadDeskOrNoMemory : Outcome → Type 0
 IsReadDeskOrNoMemory (ReadDesk before after) = Unit {0}

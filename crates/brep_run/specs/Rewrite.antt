@@ -1,7 +1,8 @@
 -- What a rewriting writes, what stands after it, whole or stopped, and why it is refused.
 use Rattle.std.specs.Prelude.{◌≡◌, ◌⊎◌, ℕ, ◌+◌, ◌<◌, ◌≤◌, IsTrue, List, length, Some}
 use Rattle.brep_desk.specs.Shown.{Shown, Tells}
-use Rattle.brep_desk.specs.Whole.{IsLonger}
+use Rattle.brep_desk.specs.Strays.{IsHeldIfTold}
+use Rattle.brep_desk.specs.Transfers.{IsLonger}
 use Rattle.history_text.specs.declared.file.HistoryFile.{HistoryFile}
 use Rattle.history_text.specs.HistoryText as history_text
 use Rattle.history_text.specs.Sending.{counted}
@@ -12,9 +13,9 @@ use Rattle.brep_file.specs.declared.file.File.{File}
 use Rattle.brep_run.specs.declared.outcome.LimitKind.{LimitKind}
 use Rattle.brep_run.specs.declared.outcome.LimitKind.TheVariants.{FileBytes, ScriptBytes, ScriptLines}
 use Rattle.brep_run.specs.declared.outcome.ScriptFault.{ScriptFault}
-use Rattle.brep_file.specs.Reads.{Reads, Spells}
+use Rattle.brep_file.specs.Reads.{Reads}
 use Rattle.brep_run.specs.WrittenFile.{text_of}
-use Rattle.brep_run.specs.Copies.{IsTextFor, SharesEqualTrees}
+use Rattle.brep_run.specs.Copies.{IsTextFor}
 use Rattle.brep_run.specs.Copy.{Holds, OutWritten, PrefixWritten, most_bytes}
 use Rattle.brep_run.specs.Removal.{IsRootAfter, history_after, origins_written, ArePairsOf, AreNumbersOf}
 use Rattle.brep_run.specs.Script.{ScriptGiven, IsRefusedAt, script_given, removals, unbuilt}
@@ -55,6 +56,15 @@ pub record IsAccepted (old : Shown) (source script : List ℕ) (f : File) (numbe
   pub held : HoldsScript old script lines
   pub given : given_for f lines ≡ removals numbers
 
+-- the root that the removals of an accepted script make of the file that is held
+abbrev pub IsRewrittenRoot : Shown → List ℕ → List ℕ → File → Use → Type 0
+IsRewrittenRoot old source script f root = (numbers : List ℕ) × IsAccepted old source script f numbers × IsRootAfter f numbers root
+
+-- Where that is told, the source is held; and where it holds a file that is read, the script is held too.
+pub record InputsAreHeld (t : Tells) (old : Shown) (source script : List ℕ) : Type 0 where
+  pub source_held : IsHeldIfTold t old source
+  pub script_held : (f : File) → HoldsFile old source f → IsHeldIfTold t old script
+
 -- ---- what is written
 
 -- the text is that of a history, whose pairs and numbers are those of the step's history, each list in ascending order
@@ -85,24 +95,6 @@ BothWritten t old new target text history told = (between : Shown) × OutWritten
 abbrev pub IsRewritten : Tells → Shown → Shown → List ℕ → List ℕ → List ℕ → List ℕ → Type 0
 IsRewritten t old new source script target history =
     (text : List ℕ) × (told : List ℕ) × AreDue t old source script text told × BothWritten t old new target text history told
-
--- a root that the removals of an accepted script make, and its text
-pub record IsRootMade (old : Shown) (source script text : List ℕ) (f : File) (root : Use) : Type 0 where
-  pub numbers : List ℕ
-  pub accepted : IsAccepted old source script f numbers
-  pub root_after : IsRootAfter f numbers root
-  pub stands : IsTextFor f root text
-
--- The written text spells one file, which stands for the root after the removals.
-abbrev pub RewriteExpands : Tells → Shown → Shown → List ℕ → List ℕ → List ℕ → Type 0
-RewriteExpands t old new source script target =
-    (text : List ℕ) → IsTrue t.held → IsTrue t.written → new.written target ≡ Some text → (f : File) × (root : Use) × IsRootMade old source script text f root
-
--- In that file two occurrences go through one record exactly where their rewritten trees are equal.
-abbrev pub RewriteShares : Tells → Shown → Shown → List ℕ → List ℕ → List ℕ → Type 0
-RewriteShares t old new source script target =
-    (text : List ℕ) (g : File) → IsTrue t.held → IsTrue t.written → new.written target ≡ Some text → Spells text g →
-    (f : File) × (root : Use) × IsRootMade old source script text f root × SharesEqualTrees root g
 
 -- ---- a fault of writing
 

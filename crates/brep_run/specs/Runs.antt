@@ -1,111 +1,107 @@
--- What a run does to the desk, and when it answers what, by what is asked.
-use Rattle.std.specs.Prelude.{◌≡◌, ◌⊎◌, ℕ, ◌+◌, IsTrue, List, None, Err}
+-- What is due of each command: what stands when it is done or was stopped, and when each other answer comes.
+use Rattle.std.specs.Prelude.{◌≡◌, ℕ, ◌+◌, IsTrue, List, Some}
 use Rattle.brep_desk.specs.Shown.{Shown, Tells}
-use Rattle.brep_desk.specs.Strays.{IsHeldIfTold}
-use Rattle.brep_desk.specs.Whole.{IsLonger}
+use Rattle.brep_desk.specs.Strays.{IsHeldIfTold, KeepsStrays}
+use Rattle.brep_desk.specs.Transfers.{IsLonger}
 use Rattle.brep_tokens.specs.declared.fault.ReadFault.{ReadFault}
+use Rattle.expansion_laws.specs.Trees.{Use}
 use Rattle.brep_file.specs.declared.file.File.{File}
-use Rattle.brep_file.specs.FileReading.{read_text}
-use Rattle.brep_file.specs.Sound.{file_limits}
+use Rattle.brep_file.specs.PlainRecords.{expansion_of}
+use Rattle.brep_file.specs.Reads.{Spells}
 use Rattle.brep_run.specs.declared.outcome.LimitKind.{LimitKind}
 use Rattle.brep_run.specs.declared.outcome.LimitKind.TheVariants.{FileBytes}
 use Rattle.brep_run.specs.declared.outcome.ScriptFault.{ScriptFault}
-use Rattle.brep_run.specs.Words.{Asked, copies, rewrites, later, wrong}
-use Rattle.brep_file.specs.Reads.{Reads}
-use Rattle.brep_run.specs.Copy.{Holds, HoldsFault, IsDue, OutWritten, PrefixWritten, CopyExpands, CopyShares, most_bytes}
-use Rattle.brep_run.specs.Rewrite.{IsRewritten, RewriteExpands, RewriteShares, IsRewriteStopped, IsRewriteUnbuilt, IsRefusedLine, IsRewriteLimit, HoldsFile, IsAccepted}
+use Rattle.brep_run.specs.CommandLine.{CommandLine, copies, rewrites, later, wrong, command_line_of}
+use Rattle.brep_run.specs.Copies.{IsTextFor, SharesEqualTrees}
+use Rattle.brep_run.specs.Copy.{HoldsFault, IsDue, OutWritten, PrefixWritten, most_bytes}
+use Rattle.brep_run.specs.Rewrite.{HoldsFile, InputsAreHeld, IsRewritten, IsRewrittenRoot, IsRewriteStopped, IsRewriteUnbuilt, IsRefusedLine, IsRewriteLimit}
 
--- The texts that are due stand under the names that are written, whole and ended.
-abbrev pub IsFinished : Tells → Shown → Shown → Asked → Type 0
-IsFinished t old new (copies source target) = (text : List ℕ) × IsDue t old source text × OutWritten t old new target text
-IsFinished t old new (rewrites source script target history) = IsRewritten t old new source script target history
-IsFinished t old new later = ⊥
-IsFinished t old new wrong = ⊥
+pub record Due : Type 1 where
+  -- the texts due stand whole under the names that are written
+  pub finished : Type 0
+  -- the written file, fully expanded, is the root due
+  pub expands : Type 0
+  -- in it two occurrences go through one record exactly where their trees are equal
+  pub shares : Type 0
+  -- a fault stopped the writing of this output after so many bytes
+  pub stopped : ℕ → ℕ → Type 0
+  -- the file is refused for this fault
+  pub file : ReadFault → Type 0
+  -- a line of the script is refused for this fault
+  pub script : ScriptFault → Type 0
+  -- so many are over this limit
+  pub limit : LimitKind → ℕ → Type 0
+  -- the command, or one of its script, isn't built
+  pub not_built : Type 0
+  -- no stray call is made, where what is read is held
+  pub no_strays : Type 0
 
--- The written file, fully expanded, is the root that is due.
-abbrev pub Expands : Tells → Shown → Shown → Asked → Type 0
-Expands t old new (copies source target) = CopyExpands t old new source target
-Expands t old new (rewrites source script target history) = RewriteExpands t old new source script target
-Expands t old new later = ⊥
-Expands t old new wrong = ⊥
+-- ---- the root due
 
--- In it two occurrences go through one record exactly where their trees are equal.
-abbrev pub Shares : Tells → Shown → Shown → Asked → Type 0
-Shares t old new (copies source target) = CopyShares t old new source target
-Shares t old new (rewrites source script target history) = RewriteShares t old new source script target
-Shares t old new later = ⊥
-Shares t old new wrong = ⊥
+-- The text written under the name spells one file, which stands for a root that is due.
+abbrev pub WrittenExpands : Tells → Shown → List ℕ → (File → Use → Type 0) → Type 0
+WrittenExpands t new target IsRoot =
+    (text : List ℕ) → IsTrue t.held → IsTrue t.written → new.written target ≡ Some text →
+    (f : File) × (root : Use) × IsRoot f root × IsTextFor f root text
 
--- The writing was stopped by a fault.
-abbrev pub IsStopped : Tells → Shown → Shown → Asked → ℕ → ℕ → Type 0
-IsStopped t old new (copies source target) file taken = (file ≡ 1) × ((text : List ℕ) × IsDue t old source text × PrefixWritten t old new target text taken)
-IsStopped t old new (rewrites source script target history) file taken = IsRewriteStopped t old new source script target history file taken
-IsStopped t old new later file taken = ⊥
-IsStopped t old new wrong file taken = ⊥
+-- In that file two occurrences go through one record exactly where their trees in the root are equal.
+abbrev pub WrittenShares : Tells → Shown → List ℕ → (File → Use → Type 0) → Type 0
+WrittenShares t new target IsRoot =
+    (text : List ℕ) (g : File) → IsTrue t.held → IsTrue t.written → new.written target ≡ Some text → Spells text g →
+    (f : File) × (root : Use) × IsRoot f root × SharesEqualTrees root g
 
--- The command isn't built, or a command of its script.
-abbrev pub IsUnbuilt : Tells → Shown → Asked → Type 0
-IsUnbuilt t old (copies source target) = ⊥
-IsUnbuilt t old (rewrites source script target history) = IsRewriteUnbuilt t old source script
-IsUnbuilt t old later = Unit {0}
-IsUnbuilt t old wrong = ⊥
+-- the expansion of the file that is held
+abbrev pub IsCopiedRoot : Shown → List ℕ → File → Use → Type 0
+IsCopiedRoot old source f root = HoldsFile old source f × (root ≡ expansion_of f)
 
--- the source holds no file, and this is its fault
-abbrev pub IsFileRefused : Tells → Shown → Asked → ReadFault → Type 0
-IsFileRefused t old (copies source target) fault = IsTrue t.held → HoldsFault old source fault
-IsFileRefused t old (rewrites source script target history) fault = IsTrue t.held → HoldsFault old source fault
-IsFileRefused t old later fault = ⊥
-IsFileRefused t old wrong fault = ⊥
+-- ---- each command
 
--- reading what the source holds ends with this fault
-abbrev pub IsFaultIn : Tells → Shown → List ℕ → ReadFault → Type 0
-IsFaultIn t old source fault = IsTrue t.held × ((bytes : List ℕ) × Holds old source bytes × (read_text file_limits bytes ≡ Err fault))
+-- a command that neither reads nor writes
+abbrev pub of_no_command : Tells → Shown → Shown → Due
+of_no_command t old new = record {
+  finished = ⊥;
+  expands = ⊥;
+  shares = ⊥;
+  stopped = λ file taken. ⊥;
+  file = λ fault. ⊥;
+  script = λ fault. ⊥;
+  limit = λ which count. ⊥;
+  not_built = ⊥;
+  no_strays = KeepsStrays t old new;
+}
 
-abbrev pub IsFaulty : Tells → Shown → Asked → ReadFault → Type 0
-IsFaulty t old (copies source target) fault = IsFaultIn t old source fault
-IsFaulty t old (rewrites source script target history) fault = IsFaultIn t old source fault
-IsFaulty t old later fault = ⊥
-IsFaulty t old wrong fault = ⊥
+abbrev pub of_copy : Tells → Shown → Shown → List ℕ → List ℕ → Due
+of_copy t old new source target = record {
+  finished = (text : List ℕ) × IsDue t old source text × OutWritten t old new target text;
+  expands = WrittenExpands t new target (IsCopiedRoot old source);
+  shares = WrittenShares t new target (IsCopiedRoot old source);
+  stopped = λ file taken. (file ≡ 1) × ((text : List ℕ) × IsDue t old source text × PrefixWritten t old new target text taken);
+  file = λ fault. IsTrue t.held → HoldsFault old source fault;
+  script = λ fault. ⊥;
+  limit = λ which count. (which ≡ FileBytes) × (count ≡ most_bytes + 1) × IsLonger t old source most_bytes;
+  not_built = ⊥;
+  no_strays = IsHeldIfTold t old source → KeepsStrays t old new;
+}
 
--- a line of a script is refused
-abbrev pub IsLineRefused : Tells → Shown → Asked → ScriptFault → Type 0
-IsLineRefused t old (copies source target) fault = ⊥
-IsLineRefused t old (rewrites source script target history) fault = IsRefusedLine t old source script fault
-IsLineRefused t old later fault = ⊥
-IsLineRefused t old wrong fault = ⊥
+abbrev pub of_rewrite : Tells → Shown → Shown → List ℕ → List ℕ → List ℕ → List ℕ → Due
+of_rewrite t old new source script target history = record {
+  finished = IsRewritten t old new source script target history;
+  expands = WrittenExpands t new target (IsRewrittenRoot old source script);
+  shares = WrittenShares t new target (IsRewrittenRoot old source script);
+  stopped = λ file taken. IsRewriteStopped t old new source script target history file taken;
+  file = λ fault. IsTrue t.held → HoldsFault old source fault;
+  script = λ fault. IsRefusedLine t old source script fault;
+  limit = λ which count. IsRewriteLimit t old source script which count;
+  not_built = IsRewriteUnbuilt t old source script;
+  no_strays = InputsAreHeld t old source script → KeepsStrays t old new;
+}
 
--- what is read is too long
-abbrev pub IsTooLong : Tells → Shown → Asked → LimitKind → ℕ → Type 0
-IsTooLong t old (copies source target) which count = (which ≡ FileBytes) × (count ≡ most_bytes + 1) × IsLonger t old source most_bytes
-IsTooLong t old (rewrites source script target history) which count = IsRewriteLimit t old source script which count
-IsTooLong t old later which count = ⊥
-IsTooLong t old wrong which count = ⊥
+abbrev pub due_of : Tells → Shown → Shown → CommandLine → Due
+due_of t old new (copies source target) = of_copy t old new source target
+due_of t old new (rewrites source script target history) = of_rewrite t old new source script target history
+due_of t old new later = record (of_no_command t old new) { not_built = Unit {0} }
+due_of t old new wrong = of_no_command t old new
 
--- something is read
-abbrev pub HasInput : Asked → Type 0
-HasInput (copies source target) = Unit {0}
-HasInput (rewrites source script target history) = Unit {0}
-HasInput later = ⊥
-HasInput wrong = ⊥
-
--- what is read is held, where that is told
-abbrev pub HoldsInput : Tells → Shown → Asked → Type 0
-HoldsInput t old (copies source target) = IsHeldIfTold t old source
-HoldsInput t old (rewrites source script target history) = IsHeldIfTold t old source × IsHeldIfTold t old script
-HoldsInput t old later = Unit {0}
-HoldsInput t old wrong = Unit {0}
-
--- the source holds a file that is read, and the script is accepted
-abbrev pub IsReady : Tells → Shown → Asked → Type 0
-IsReady t old (copies source target) = IsTrue t.held × ((bytes : List ℕ) × (f : File) × Holds old source bytes × Reads bytes f)
-IsReady t old (rewrites source script target history) = IsTrue t.held × ((f : File) × (numbers : List ℕ) × IsAccepted old source script f numbers)
-IsReady t old later = ⊥
-IsReady t old wrong = ⊥
-
--- the source isn't held, or the script where the source holds a file that is read
-abbrev pub IsMissing : Tells → Shown → Asked → Type 0
-IsMissing t old (copies source target) = IsTrue t.held × (old.held source ≡ None)
-IsMissing t old (rewrites source script target history) =
-    IsTrue t.held × ((old.held source ≡ None) ⊎ ((old.held script ≡ None) × ((f : File) × HoldsFile old source f)))
-IsMissing t old later = ⊥
-IsMissing t old wrong = ⊥
+-- what is due of the command that the words spell
+abbrev pub due : Tells → Shown → Shown → List (List ℕ) → Due
+due t old new words = due_of t old new (command_line_of words)

@@ -1,7 +1,8 @@
 //! Reads the inputs of a run: a file, and the script that goes with it.
 ghost use Rattle.std.specs.Prelude.{◌≡◌, ◌≤◌, All, IfErr, IfOk, IsTrue, OnOk, Some, length};
 ghost use Rattle.brep_desk.specs.Strays.{KeepsStrays, IsHeldIfTold};
-ghost use Rattle.brep_desk.specs.Whole.{NothingWritten, NoMoreOpen};
+ghost use Rattle.brep_desk.specs.Transfers.{NothingWritten, NoMoreOpen};
+ghost use Rattle.brep_desk.specs.WritingCalls.{KeepsWritingCalls};
 ghost use Rattle.brep_file.specs.Sound.{IsSmall, IsSound};
 ghost use Rattle.brep_run.specs.Inputs.{IsInputStop, IsLinesStop, IsScriptStop};
 ghost use Rattle.brep_run.specs.Rewrite.{HoldsFile, HoldsScript, given_for, most_script_lines};
@@ -42,6 +43,7 @@ pub(crate) fn read_input<D: Desk>(
 ) -> Result<Input, Outcome>
     ensures later { D.faults desk.old ≤ D.faults desk.new }
     ensures quiet { NothingWritten D.tells (D.shows desk.old) (D.shows desk.new) }
+    ensures writing_calls { KeepsWritingCalls D.tells (D.shows desk.old) (D.shows desk.new) }
     ensures read { IfOk result (λ input. IsTrue D.tells.held → HoldsFile (D.shows desk.old) source.now input.file) }
     ensures sound { IfOk result (λ input. IsSound input.file) }
     ensures small { IfOk result (λ input. IsSmall input.file) }
@@ -83,6 +85,7 @@ pub(crate) fn read_script<D: Desk>(
 ) -> Result<Vec<u8>, Outcome>
     ensures later { D.faults desk.old ≤ D.faults desk.new }
     ensures quiet { NothingWritten D.tells (D.shows desk.old) (D.shows desk.new) }
+    ensures writing_calls { KeepsWritingCalls D.tells (D.shows desk.old) (D.shows desk.new) }
     ensures read { IfOk result (λ lines. IsTrue D.tells.held → HoldsScript (D.shows desk.old) script.now lines.items) }
     ensures few { IfOk result (λ lines. length (script_lines lines.items) ≤ most_script_lines) }
     ensures stop { IfErr result (λ stop. IsScriptStop D.tells (D.shows desk.old) script.now (D.faults desk.old) (D.faults desk.new) stop) }

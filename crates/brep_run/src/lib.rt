@@ -1,6 +1,7 @@
 //! The top call: reads a BREP file, and writes it by the written layout.
 #![tactic(auto)]
 
+mod command_line;
 mod copy;
 mod input;
 pub mod laws;
@@ -9,7 +10,6 @@ mod removal;
 mod rewrite;
 mod script;
 mod top;
-mod words;
 mod writer;
 
 pub use outcome::{LimitKind, Message, Outcome, ScriptCode, ScriptFault};

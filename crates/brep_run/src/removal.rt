@@ -79,7 +79,7 @@ fn root_stays(
 
 /// Removes the records with these numbers, together in one step; with none the file is written as it is. `room` is how
 /// many bytes of text are expected; there may be fewer or more.
-pub(crate) fn without(
+pub(crate) fn remove_shapes(
     alloc: Global,
     file: File,
     numbers: &[u32],

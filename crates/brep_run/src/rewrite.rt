@@ -1,20 +1,21 @@
 //! `rewrite`: reads a file and a script, and writes the file after the script's removals and their history.
 ghost use Rattle.std.specs.Prelude.{◌≡◌, ◌≤◌, ◌<◌, ◌^◌, ◌+◌, ℕ, List, All, IfOk, IsTrue, length};
-ghost use Rattle.brep_desk.specs.Strays.{KeepsStrays, IsHeldIfTold};
-ghost use Rattle.brep_desk.specs.Whole.{NothingWritten};
+ghost use Rattle.brep_desk.specs.Strays.{KeepsStrays};
+ghost use Rattle.brep_desk.specs.Transfers.{NothingWritten};
 ghost use Rattle.expansion_laws.specs.Expansion.{IsNumberOf};
 ghost use Rattle.expansion_laws.specs.Trees.{Use};
 ghost use Rattle.history_text.specs.HistoryText.{text_of};
+ghost use Rattle.brep_desk.specs.WritingCalls.{KeepsWritingCalls, RoseWritingCalls};
 ghost use Rattle.brep_run.specs.Copy.{Counts, HoldsFault, OutWritten};
-ghost use Rattle.brep_run.specs.Outcomes.{OnDone, OnUsage, OnNotBuilt, IfFile, IfLimit, IfReadDesk, IfScript, IfWriteDesk, UnlessWriting};
-ghost use Rattle.brep_run.specs.Rewrite.{AreTextsOf, BothWritten, IsCountedPrefix, IsOneStopped, IsRefusedLine, IsRewriteLimit, IsRewriteStopped, IsRewriteUnbuilt, IsRewritten};
+ghost use Rattle.brep_run.specs.Outcomes.{OnDone, OnUsage, OnNotBuilt, OnWriting, IfFile, IfLimit, IfScript, IfStopped, IfDeskFault, UnlessWriting};
+ghost use Rattle.brep_run.specs.Rewrite.{AreTextsOf, BothWritten, InputsAreHeld, IsCountedPrefix, IsOneStopped, IsRefusedLine, IsRewriteLimit, IsRewriteStopped, IsRewriteUnbuilt, IsRewritten};
 ghost use Rattle.brep_file.specs.Sound.{IsSound};
 
 use crate::copy::write_out;
 use crate::input::{read_input, read_script, removed_from};
 use crate::laws::texts_stand_for_roots;
 use crate::outcome::Outcome;
-use crate::removal::without;
+use crate::removal::remove_shapes;
 use brep_desk::Desk;
 use brep_file::File;
 use expansion_laws::laws::roots_are_written;
@@ -42,7 +43,7 @@ fn rewriting_of(
 {
     texts_stand_for_roots();
     roots_are_written();
-    let removal = without(alloc, file, numbers, room)?;
+    let removal = remove_shapes(alloc, file, numbers, room)?;
     Ok(Rewriting {
         text: removal.text,
         history: HistoryFile {
@@ -57,10 +58,11 @@ fn rewriting_of(
 /// Writes the history under the name, whole and ended, as the second output.
 fn write_history<D: Desk>(desk: &mut D, name: &str, history: &HistoryFile) -> Outcome
     ensures done { OnDone result (OutWritten D.tells (D.shows desk.old) (D.shows desk.new) name.now (text_of history.now)) }
-    ensures stopped { IfWriteDesk result (λ b a file taken. (file ≡ 2) × IsCountedPrefix D.tells (D.shows desk.old) (D.shows desk.new) name.now (text_of history.now) taken) }
-    ensures counts { IfWriteDesk result (λ b a file taken. Counts (D.faults desk.old) (D.faults desk.new) b a) }
+    ensures stopped { IfStopped result (λ file taken. (file ≡ 2) × IsCountedPrefix D.tells (D.shows desk.old) (D.shows desk.new) name.now (text_of history.now) taken) }
+    ensures counts { IfDeskFault result (Counts (D.faults desk.old) (D.faults desk.new)) }
     ensures either { UnlessWriting result ⊥ }
     ensures strays { KeepsStrays D.tells (D.shows desk.old) (D.shows desk.new) }
+    ensures writing_calls { RoseWritingCalls D.tells (D.shows desk.old) (D.shows desk.new) }
 {
     let before = desk.faults();
     let c = match desk.begin_write(name) {
@@ -105,10 +107,11 @@ fn write_both<D: Desk>(
     history: &HistoryFile,
 ) -> Outcome
     ensures done { OnDone result (BothWritten D.tells (D.shows desk.old) (D.shows desk.new) target.now text.now name.now (text_of history.now)) }
-    ensures stopped { IfWriteDesk result (λ b a file taken. IsOneStopped D.tells (D.shows desk.old) (D.shows desk.new) target.now text.now name.now (text_of history.now) file taken) }
-    ensures counts { IfWriteDesk result (λ b a file taken. Counts (D.faults desk.old) (D.faults desk.new) b a) }
+    ensures stopped { IfStopped result (λ file taken. IsOneStopped D.tells (D.shows desk.old) (D.shows desk.new) target.now text.now name.now (text_of history.now) file taken) }
+    ensures counts { IfDeskFault result (Counts (D.faults desk.old) (D.faults desk.new)) }
     ensures either { UnlessWriting result ⊥ }
     ensures strays { KeepsStrays D.tells (D.shows desk.old) (D.shows desk.new) }
+    ensures writing_calls { RoseWritingCalls D.tells (D.shows desk.old) (D.shows desk.new) }
 {
     match write_out(desk, target, text) {
         Outcome::Done => write_history(desk, name, history),
@@ -127,16 +130,17 @@ pub(crate) fn rewrite<D: Desk>(
     history: &str,
 ) -> Outcome
     ensures done { OnDone result (IsRewritten D.tells (D.shows desk.old) (D.shows desk.new) source.now script.now target.now history.now) }
-    ensures stopped { IfWriteDesk result (λ b a file taken. IsRewriteStopped D.tells (D.shows desk.old) (D.shows desk.new) source.now script.now target.now history.now file taken) }
-    ensures write_counts { IfWriteDesk result (λ b a file taken. Counts (D.faults desk.old) (D.faults desk.new) b a) }
-    ensures read_counts { IfReadDesk result (λ b a. Counts (D.faults desk.old) (D.faults desk.new) b a) }
+    ensures stopped { IfStopped result (λ file taken. IsRewriteStopped D.tells (D.shows desk.old) (D.shows desk.new) source.now script.now target.now history.now file taken) }
+    ensures counts { IfDeskFault result (Counts (D.faults desk.old) (D.faults desk.new)) }
     ensures limit { IfLimit result (λ which count. IsRewriteLimit D.tells (D.shows desk.old) source.now script.now which count) }
     ensures file { IfFile result (λ fault. IsTrue D.tells.held → HoldsFault (D.shows desk.old) source.now fault) }
     ensures not_built { OnNotBuilt result (IsRewriteUnbuilt D.tells (D.shows desk.old) source.now script.now) }
     ensures script { IfScript result (λ fault. IsRefusedLine D.tells (D.shows desk.old) source.now script.now fault) }
     ensures usage { OnUsage result ⊥ }
     ensures quiet { UnlessWriting result (NothingWritten D.tells (D.shows desk.old) (D.shows desk.new)) }
-    ensures strays { IsHeldIfTold D.tells (D.shows desk.old) source.now → IsHeldIfTold D.tells (D.shows desk.old) script.now → KeepsStrays D.tells (D.shows desk.old) (D.shows desk.new) }
+    ensures calls_kept { UnlessWriting result (KeepsWritingCalls D.tells (D.shows desk.old) (D.shows desk.new)) }
+    ensures calls_rose { OnWriting result (RoseWritingCalls D.tells (D.shows desk.old) (D.shows desk.new)) }
+    ensures strays { InputsAreHeld D.tells (D.shows desk.old) source.now script.now → KeepsStrays D.tells (D.shows desk.old) (D.shows desk.new) }
 {
     let input = match read_input(alloc, desk, source) {
         Ok(input) => input,

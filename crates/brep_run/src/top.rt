@@ -1,19 +1,18 @@
 //! The top call: all that the program does.
-ghost use Rattle.std.specs.Prelude.{◌≡◌, ◌⊎◌};
-ghost use Rattle.brep_desk.specs.Strays.{KeepsStrays};
-ghost use Rattle.brep_desk.specs.Whole.{NothingWritten};
-ghost use Rattle.brep_desk.specs.Causes.{Rose};
-ghost use Rattle.brep_tokens.specs.declared.fault.ReadFault.{ReadFault};
-ghost use Rattle.brep_run.specs.Words.{Asked, wrong, later, asked_of};
-ghost use Rattle.brep_run.specs.Outcomes.{OnDone, OnUsage, OnNotBuilt, IfFile, IfLimit, IfScript, IfReadDesk, IfWriteDesk, UnlessWriting, IsDoneOrNoMemory, IsReadDeskOrNoMemory};
+ghost use Rattle.std.specs.Prelude.{◌≡◌};
+ghost use Rattle.brep_desk.specs.Transfers.{NothingWritten};
+ghost use Rattle.brep_desk.specs.WritingCalls.{KeepsWritingCalls, RoseWritingCalls};
+ghost use Rattle.brep_run.specs.Answering.{Answers, answer_to};
+ghost use Rattle.brep_run.specs.CommandLine.{HasInput, command_line_of, later, wrong};
 ghost use Rattle.brep_run.specs.Copy.{Counts};
-ghost use Rattle.brep_run.specs.Runs.{IsFinished, Expands, Shares, IsStopped, IsUnbuilt, IsFileRefused, IsFaulty, IsLineRefused, HasInput, HoldsInput, IsTooLong, IsReady, IsMissing};
+ghost use Rattle.brep_run.specs.Outcomes.{OnDone, OnUsage, OnNotBuilt, OnReadDesk, OnWriting, IfFile, IfLimit, IfScript, IfStopped, IfDeskFault, UnlessWriting};
+ghost use Rattle.brep_run.specs.Runs.{due};
 
+use crate::command_line::{CommandLine, command_line};
 use crate::copy::copy;
 use crate::laws::texts_stand_for_roots;
 use crate::outcome::Outcome;
 use crate::rewrite::rewrite;
-use crate::words::{Request, asked};
 use brep_desk::{CommandWords, Desk, Steps};
 use brep_file::laws::reading_is_exact;
 use expansion_laws::laws::records_are_trees;
@@ -33,43 +32,44 @@ pub fn run<D: Desk, L: Ledger>(
 ) -> Outcome
     // Done: the texts due stand whole under their names; OUT spells one file, which expands to the dressed root that is due; and
     // in that file two occurrences go through one record exactly where their trees are equal.
-    ensures done { OnDone result (IsFinished D.tells (D.shows desk.old) (D.shows desk.new) (asked_of words.now)) }
-    ensures expands { OnDone result (Expands D.tells (D.shows desk.old) (D.shows desk.new) (asked_of words.now)) }
-    ensures shares { OnDone result (Shares D.tells (D.shows desk.old) (D.shows desk.new) (asked_of words.now)) }
+    ensures done { OnDone result (due D.tells (D.shows desk.old) (D.shows desk.new) words.now).finished }
+    ensures expands { OnDone result (due D.tells (D.shows desk.old) (D.shows desk.new) words.now).expands }
+    ensures shares { OnDone result (due D.tells (D.shows desk.old) (D.shows desk.new) words.now).shares }
 
-    // When each other answer comes.
-    ensures usage { OnUsage result (asked_of words.now ≡ wrong) }
-    ensures usage_due { asked_of words.now ≡ wrong → result ≡ Outcome.Usage }
-    ensures not_built { OnNotBuilt result (IsUnbuilt D.tells (D.shows desk.old) (asked_of words.now)) }
-    ensures not_built_due { asked_of words.now ≡ later → result ≡ Outcome.NotBuilt }
-    ensures file { IfFile result (λ fault. IsFileRefused D.tells (D.shows desk.old) (asked_of words.now) fault) }
-    ensures script { IfScript result (λ fault. IsLineRefused D.tells (D.shows desk.old) (asked_of words.now) fault) }
-    ensures limit { IfLimit result (λ which count. IsTooLong D.tells (D.shows desk.old) (asked_of words.now) which count) }
-    ensures read { IfReadDesk result (λ b a. Counts (D.faults desk.old) (D.faults desk.new) b a × HasInput (asked_of words.now)) }
-    ensures write { IfWriteDesk result (λ b a file taken. Counts (D.faults desk.old) (D.faults desk.new) b a) }
-    ensures stopped { IfWriteDesk result (λ b a file taken. IsStopped D.tells (D.shows desk.old) (D.shows desk.new) (asked_of words.now) file taken) }
+    // The answer that is due for what the names hold: each refusal, Done or a fault of reading, unless a fault of the desk is
+    // counted or memory runs out.
+    ensures due { Answers result (answer_to D.tells (D.shows desk.old) words.now) (D.faults desk.old) (D.faults desk.new) }
+    ensures usage_due { command_line_of words.now ≡ wrong → result ≡ Outcome.Usage }
+    ensures not_built_due { command_line_of words.now ≡ later → result ≡ Outcome.NotBuilt }
 
-    // A file that is read is copied, unless a fault of the desk is counted or memory runs out; of one that isn't read the
-    // first fault is told; one that isn't held is a fault of the desk.
-    ensures complete { IsReady D.tells (D.shows desk.old) (asked_of words.now) → (Rose (D.faults desk.old) (D.faults desk.new) → ⊥) → IsDoneOrNoMemory result }
-    ensures file_due { (fault : ReadFault) → IsFaulty D.tells (D.shows desk.old) (asked_of words.now) fault → (Rose (D.faults desk.old) (D.faults desk.new) → ⊥) → (result ≡ Outcome.File fault) ⊎ (result ≡ Outcome.NoMemory) }
-    ensures missing { IsMissing D.tells (D.shows desk.old) (asked_of words.now) → IsReadDeskOrNoMemory result }
+    // Each other answer comes only here.
+    ensures usage { OnUsage result (command_line_of words.now ≡ wrong) }
+    ensures not_built { OnNotBuilt result (due D.tells (D.shows desk.old) (D.shows desk.new) words.now).not_built }
+    ensures file { IfFile result (due D.tells (D.shows desk.old) (D.shows desk.new) words.now).file }
+    ensures script { IfScript result (due D.tells (D.shows desk.old) (D.shows desk.new) words.now).script }
+    ensures limit { IfLimit result (due D.tells (D.shows desk.old) (D.shows desk.new) words.now).limit }
+    ensures stopped { IfStopped result (due D.tells (D.shows desk.old) (D.shows desk.new) words.now).stopped }
+    ensures read { OnReadDesk result (HasInput (command_line_of words.now)) }
+    ensures counts { IfDeskFault result (Counts (D.faults desk.old) (D.faults desk.new)) }
 
     // After each answer but Done and WriteDesk nothing is written, and words that ask for no file touch nothing.
     ensures quiet { UnlessWriting result (NothingWritten D.tells (D.shows desk.old) (D.shows desk.new)) }
-    // It makes no stray call, where the file that the words read is held.
-    ensures strays { HoldsInput D.tells (D.shows desk.old) (asked_of words.now) → KeepsStrays D.tells (D.shows desk.old) (D.shows desk.new) }
-    ensures untouched { (HasInput (asked_of words.now) → ⊥) → desk.new ≡ desk.old }
+    // Such an answer comes after no call of writing, also none that failed; Done and WriteDesk come after one.
+    ensures calls_kept { UnlessWriting result (KeepsWritingCalls D.tells (D.shows desk.old) (D.shows desk.new)) }
+    ensures calls_rose { OnWriting result (RoseWritingCalls D.tells (D.shows desk.old) (D.shows desk.new)) }
+    ensures untouched { (HasInput (command_line_of words.now) → ⊥) → desk.new ≡ desk.old }
+    // It makes no stray call, where what it reads is held: of SCRIPT this is asked only where IN holds a file that is read.
+    ensures strays { (due D.tells (D.shows desk.old) (D.shows desk.new) words.now).no_strays }
     ensures steps { steps.new ≡ steps.old }
 {
     reading_is_exact();
     texts_stand_for_roots();
     records_are_trees();
-    match asked(words.as_slice()) {
-        Request::Wrong => Outcome::Usage,
-        Request::Later => Outcome::NotBuilt,
-        Request::Copy { source, target } => copy(alloc, desk, source, target),
-        Request::Rewrite {
+    match command_line(words.as_slice()) {
+        CommandLine::Wrong => Outcome::Usage,
+        CommandLine::Later => Outcome::NotBuilt,
+        CommandLine::Copy { source, target } => copy(alloc, desk, source, target),
+        CommandLine::Rewrite {
             source,
             script,
             target,

@@ -1,6 +1,7 @@
 //! Runs over a desk whose calls fail: the counts that are told, and what stands afterwards.
 use brep_desk::Desk;
 use brep_run::Outcome;
+use brep_tokens::{ReadCode, ReadFault};
 use sample_runs::{TWICE, desk_with, ran};
 use std::test::Fail;
 
@@ -85,5 +86,40 @@ fn a_name_that_is_not_held_is_a_fault(rt: HostRuntime) -> Result<(), Fail> {
     let outcome = ran(alloc, &["copy", "other", "out"], &mut desk)?;
     assert_eq!(rt; outcome.status(), 7);
     assert_eq!(rt; desk.written("out"), None);
+    Ok(())
+}
+
+// IN is read and refused before SCRIPT is opened: where SCRIPT isn't held, the fault of IN is told, and no call of the desk fails.
+// Where IN holds a file, SCRIPT is missed.
+#[test]
+fn a_faulty_file_is_told_before_the_script_is_opened(rt: HostRuntime) -> Result<(), Fail> {
+    let alloc = rt.alloc();
+    let words = ["rewrite", "in", "script", "out", "history"];
+    let rows = [
+        (
+            "no file\n",
+            Outcome::File(ReadFault {
+                code: ReadCode::NoVersion,
+                offset: 8,
+                value: 0,
+                limit: 0,
+            }),
+            0,
+        ),
+        (
+            TWICE,
+            Outcome::ReadDesk {
+                before: 0,
+                after: 1,
+            },
+            1,
+        ),
+    ];
+    for (text, want, faults) in rows {
+        let mut desk = desk_with(alloc, "in", text.as_bytes().to_vec(alloc)?, &[], 64)?;
+        assert_eq!(rt; ran(alloc, &words, &mut desk)?, want, "{text}");
+        assert_eq!(rt; desk.faults(), faults, "{text}");
+        assert_eq!(rt; desk.written("out"), None);
+    }
     Ok(())
 }

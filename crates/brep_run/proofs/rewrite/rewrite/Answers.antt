@@ -1,6 +1,6 @@
 use Rattle.std.proofs.Common.{subst}
 use Rattle.brep_run.specs.Inputs.{IsLinesStop}
-use Rattle.brep_run.proofs.Reading.{quiet-both, closed-both, done-after, stopped-after, due-made, limited-before, unbuilt-before, refused-before}
+use Rattle.brep_run.proofs.Reading.{quiet-both, closed-both, done-after, stopped-after, due-made, limited-before, script-held, strays-both, unbuilt-before, refused-before}
 use Rattle.history_text.specs.HistoryText.{text_of}
 use Rattle.brep_run.proofs.rewrite.rewrite.Goals as goal
 
@@ -37,3 +37,25 @@ returns-in-Ok-rewriting_of-clause-stopped g c =
     (due-made g.D.Desk.tells (g.D.Desk.shows c.args.desk.now) _ c.in-Ok.ensures.quiet c.args.source.now c.args.script.now c.in-Ok.input.file c.in-Ok.ensures.read _ c.in-Ok-read_script.ensures.read
     c.deref.result.now _ _ _ _ _ made.0 c.deref.ensures.value c.deref-2.ensures.value c.deref-in-Ok-rewriting_of.ensures.value c.in-Ok-removed_from.ensures.ok made.1)
     c.write_both.result c.write_both.ensures.stopped
+
+pub returns-in-Err-read_script-clause-strays : goal.returns-in-Err-read_script-clause-strays
+returns-in-Err-read_script-clause-strays g c = λ inputs.
+    let first = c.in-Ok.ensures in
+    let held = script-held g.D.Desk.tells (g.D.Desk.shows c.args.desk.now) (g.D.Desk.shows c.read_input.new.desk) c.args.source.now c.args.script.now c.in-Ok.input.file first.quiet first.read inputs in
+    strays-both g.D.Desk.tells (g.D.Desk.shows c.args.desk.now) (g.D.Desk.shows c.read_input.new.desk) (g.D.Desk.shows c.read_script.new.desk) (first.strays inputs.source_held) (c.in-Err-read_script.ensures.strays held)
+
+pub returns-in-Err-removed_from-clause-strays : goal.returns-in-Err-removed_from-clause-strays
+returns-in-Err-removed_from-clause-strays g c = λ inputs.
+    let first = c.in-Ok.ensures in
+    let held = script-held g.D.Desk.tells (g.D.Desk.shows c.args.desk.now) (g.D.Desk.shows c.read_input.new.desk) c.args.source.now c.args.script.now c.in-Ok.input.file first.quiet first.read inputs in
+    strays-both g.D.Desk.tells (g.D.Desk.shows c.args.desk.now) (g.D.Desk.shows c.read_input.new.desk) (g.D.Desk.shows c.read_script.new.desk) (first.strays inputs.source_held) (c.in-Ok-read_script.ensures.strays held)
+
+pub returns-in-Ok-rewriting_of-clause-strays : goal.returns-in-Ok-rewriting_of-clause-strays
+returns-in-Ok-rewriting_of-clause-strays g c = λ inputs.
+    let first = c.in-Ok.ensures in
+    let held = script-held g.D.Desk.tells (g.D.Desk.shows c.args.desk.now) (g.D.Desk.shows c.read_input.new.desk) c.args.source.now c.args.script.now c.in-Ok.input.file first.quiet first.read inputs in
+    let both = strays-both g.D.Desk.tells (g.D.Desk.shows c.args.desk.now) (g.D.Desk.shows c.read_input.new.desk) (g.D.Desk.shows c.read_script.new.desk) (first.strays inputs.source_held) (c.in-Ok-read_script.ensures.strays held) in
+    strays-both g.D.Desk.tells (g.D.Desk.shows c.args.desk.now) (g.D.Desk.shows c.read_script.new.desk) (g.D.Desk.shows c.write_both.new.desk) both c.write_both.ensures.strays
+
+pub returns-in-Err-clause-strays : goal.returns-in-Err-clause-strays
+returns-in-Err-clause-strays g c = λ inputs. c.in-Err.ensures.strays inputs.source_held

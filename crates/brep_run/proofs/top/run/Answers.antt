@@ -1,64 +1,56 @@
 use Rattle.std.proofs.Common.{sym, ap, subst, ◌∙◌}
-use Rattle.brep_run.specs.Words.{asked_of}
 use Rattle.brep_file.specs.PlainRecords.{plain_records, plain_root}
-use Rattle.brep_run.proofs.CopyLemmas.{file-sound}
+use Rattle.brep_run.specs.Answering.{Answers, answer_for}
+use Rattle.brep_run.specs.CommandLine.{command_line_of}
 use Rattle.brep_run.specs.Outcomes.{OnDone}
-use Rattle.brep_run.specs.Runs.{Expands, Shares, IsFaulty, IsReady, IsMissing}
-use Rattle.brep_run.proofs.CopyLaws.{done_stands, done_shares}
-use Rattle.brep_run.proofs.RewriteLaws.{if_done_expands, if_done_shares, ready_is_done, missing_is_fault}
-use Rattle.brep_run.proofs.FaultLaws.{copy_faulty, rewrite_faulty}
+use Rattle.brep_run.specs.Rewrite.{IsRewrittenRoot}
+use Rattle.brep_run.specs.Runs.{IsCopiedRoot, due_of}
+use Rattle.brep_run.proofs.Answered.{OnDone-weaker}
+use Rattle.brep_run.proofs.AnswerLaws.{copy-answers, if-told, rewrite-answers}
+use Rattle.brep_run.proofs.CopyLemmas.{file-sound}
+use Rattle.brep_run.proofs.CopyLaws.{copy-expands, expands-shares}
+use Rattle.brep_run.proofs.RewriteLaws.{rewrite-expands}
 use Rattle.brep_run.proofs.WordLaws.{written-apart}
 use Rattle.brep_run.proofs.top.run.Goals as goal
 
 pub returns-in-Copy-clause-expands : goal.returns-in-Copy-clause-expands
 returns-in-Copy-clause-expands g c =
-    done_stands c.reading_is_exact.ensures c.texts_stand_for_roots.ensures g.D.Desk.tells _ _ c.in-Copy.source.now c.in-Copy.target.now
-    (asked_of c.args.words.now) (ap asked_of (sym c.as_slice.ensures) ∙ c.in-Copy.ensures) c.copy.result c.copy.ensures.done
+    let line = ap command_line_of (sym c.as_slice.ensures) ∙ c.in-Copy.ensures in
+    subst (λ l. OnDone c.copy.result (due_of g.D.Desk.tells (g.D.Desk.shows c.args.desk.now) (g.D.Desk.shows c.copy.new.desk) l).expands) (sym line)
+    (OnDone-weaker _ _ (copy-expands c.texts_stand_for_roots.ensures g.D.Desk.tells _ _ c.in-Copy.source.now c.in-Copy.target.now) c.copy.result c.copy.ensures.done)
 
 pub returns-in-Copy-clause-shares : goal.returns-in-Copy-clause-shares
 returns-in-Copy-clause-shares g c =
-    done_shares c.reading_is_exact.ensures (λ f sound. c.records_are_trees.ensures (plain_records f) (plain_root f) (file-sound f sound)) g.D.Desk.tells _ _ c.in-Copy.source.now c.in-Copy.target.now
-    (asked_of c.args.words.now) (ap asked_of (sym c.as_slice.ensures) ∙ c.in-Copy.ensures) c.copy.result
-    (done_stands c.reading_is_exact.ensures c.texts_stand_for_roots.ensures g.D.Desk.tells _ _ c.in-Copy.source.now c.in-Copy.target.now
-    (asked_of c.args.words.now) (ap asked_of (sym c.as_slice.ensures) ∙ c.in-Copy.ensures) c.copy.result c.copy.ensures.done)
+    let line = ap command_line_of (sym c.as_slice.ensures) ∙ c.in-Copy.ensures in
+    subst (λ l. OnDone c.copy.result (due_of g.D.Desk.tells (g.D.Desk.shows c.args.desk.now) (g.D.Desk.shows c.copy.new.desk) l).shares) (sym line)
+    (OnDone-weaker _ _ (λ done. expands-shares (λ f sound. c.records_are_trees.ensures (plain_records f) (plain_root f) (file-sound f sound)) g.D.Desk.tells (g.D.Desk.shows c.copy.new.desk) c.in-Copy.target.now (IsCopiedRoot (g.D.Desk.shows c.args.desk.now) c.in-Copy.source.now)
+    (copy-expands c.texts_stand_for_roots.ensures g.D.Desk.tells (g.D.Desk.shows c.args.desk.now) (g.D.Desk.shows c.copy.new.desk) c.in-Copy.source.now c.in-Copy.target.now done)) c.copy.result c.copy.ensures.done)
+
+pub returns-in-Copy-clause-due : goal.returns-in-Copy-clause-due
+returns-in-Copy-clause-due g c =
+    let line = ap command_line_of (sym c.as_slice.ensures) ∙ c.in-Copy.ensures in
+    let e = c.copy.ensures in
+    if-told _ _ g.D.Desk.tells.held _ c.copy.result
+    (λ held. subst (λ l. Answers c.copy.result (answer_for (g.D.Desk.shows c.args.desk.now) l) (g.D.Desk.faults c.args.desk.now) (g.D.Desk.faults c.copy.new.desk)) (sym line)
+    (copy-answers _ _ c.reading_is_exact.ensures g.D.Desk.tells _ _ _ held c.in-Copy.target.now c.copy.result e.done e.usage e.not_built e.file e.script e.limit e.stopped e.counts))
 
 pub returns-in-Rewrite-clause-expands : goal.returns-in-Rewrite-clause-expands
 returns-in-Rewrite-clause-expands g c =
-    let asked = ap asked_of (sym c.as_slice.ensures) ∙ c.in-Rewrite.ensures in
-    subst (λ a. OnDone c.rewrite.result (Expands g.D.Desk.tells (g.D.Desk.shows c.args.desk.now) (g.D.Desk.shows c.rewrite.new.desk) a)) (sym asked)
-    (if_done_expands g.D.Desk.tells _ _ _ _ _ _ (written-apart _ _ _ _ _ asked) c.rewrite.result c.rewrite.ensures.done)
+    let line = ap command_line_of (sym c.as_slice.ensures) ∙ c.in-Rewrite.ensures in
+    subst (λ l. OnDone c.rewrite.result (due_of g.D.Desk.tells (g.D.Desk.shows c.args.desk.now) (g.D.Desk.shows c.rewrite.new.desk) l).expands) (sym line)
+    (OnDone-weaker _ _ (rewrite-expands g.D.Desk.tells _ _ _ _ _ _ (written-apart _ _ _ _ _ line)) c.rewrite.result c.rewrite.ensures.done)
 
 pub returns-in-Rewrite-clause-shares : goal.returns-in-Rewrite-clause-shares
 returns-in-Rewrite-clause-shares g c =
-    let asked = ap asked_of (sym c.as_slice.ensures) ∙ c.in-Rewrite.ensures in
-    subst (λ a. OnDone c.rewrite.result (Shares g.D.Desk.tells (g.D.Desk.shows c.args.desk.now) (g.D.Desk.shows c.rewrite.new.desk) a)) (sym asked)
-    (if_done_shares g.D.Desk.tells _ _ _ _ _ _ (written-apart _ _ _ _ _ asked)
-    (λ f sound. c.records_are_trees.ensures (plain_records f) (plain_root f) (file-sound f sound)) c.rewrite.result c.rewrite.ensures.done)
+    let line = ap command_line_of (sym c.as_slice.ensures) ∙ c.in-Rewrite.ensures in
+    subst (λ l. OnDone c.rewrite.result (due_of g.D.Desk.tells (g.D.Desk.shows c.args.desk.now) (g.D.Desk.shows c.rewrite.new.desk) l).shares) (sym line)
+    (OnDone-weaker _ _ (λ done. expands-shares (λ f sound. c.records_are_trees.ensures (plain_records f) (plain_root f) (file-sound f sound)) g.D.Desk.tells (g.D.Desk.shows c.rewrite.new.desk) c.in-Rewrite.target.now (IsRewrittenRoot (g.D.Desk.shows c.args.desk.now) c.in-Rewrite.source.now c.in-Rewrite.script.now)
+    (rewrite-expands g.D.Desk.tells (g.D.Desk.shows c.args.desk.now) (g.D.Desk.shows c.rewrite.new.desk) c.in-Rewrite.source.now c.in-Rewrite.script.now c.in-Rewrite.target.now c.in-Rewrite.history.now (written-apart _ _ _ _ _ line) done)) c.rewrite.result c.rewrite.ensures.done)
 
-pub returns-in-Rewrite-clause-complete : goal.returns-in-Rewrite-clause-complete
-returns-in-Rewrite-clause-complete g c = λ ready calm.
-    let asked = ap asked_of (sym c.as_slice.ensures) ∙ c.in-Rewrite.ensures in
-    let is = subst (λ a. IsReady g.D.Desk.tells (g.D.Desk.shows c.args.desk.now) a) asked ready in
+pub returns-in-Rewrite-clause-due : goal.returns-in-Rewrite-clause-due
+returns-in-Rewrite-clause-due g c =
+    let line = ap command_line_of (sym c.as_slice.ensures) ∙ c.in-Rewrite.ensures in
     let e = c.rewrite.ensures in
-    ready_is_done c.reading_is_exact.ensures g.D.Desk.tells _ _ _ is.1.0 is.0 is.1.2.file is.1.1 is.1.2 _ _ calm c.rewrite.result e.usage e.not_built e.file e.script e.limit e.read_counts e.write_counts
-
-pub returns-in-Rewrite-clause-missing : goal.returns-in-Rewrite-clause-missing
-returns-in-Rewrite-clause-missing g c = λ lacks.
-    let asked = ap asked_of (sym c.as_slice.ensures) ∙ c.in-Rewrite.ensures in
-    let is = subst (λ a. IsMissing g.D.Desk.tells (g.D.Desk.shows c.args.desk.now) a) asked lacks in
-    let e = c.rewrite.ensures in
-    missing_is_fault c.reading_is_exact.ensures g.D.Desk.tells _ _ _ _ _ _ is.0 is.1 c.rewrite.result e.done e.usage e.not_built e.file e.script e.limit e.stopped
-
-pub returns-in-Copy-clause-file_due : goal.returns-in-Copy-clause-file_due
-returns-in-Copy-clause-file_due g c = λ fault faulty calm.
-    let asked = ap asked_of (sym c.as_slice.ensures) ∙ c.in-Copy.ensures in
-    let is = subst (λ a. IsFaulty g.D.Desk.tells (g.D.Desk.shows c.args.desk.now) a fault) asked faulty in
-    let e = c.copy.ensures in
-    copy_faulty c.reading_is_exact.ensures g.D.Desk.tells _ _ fault is _ _ calm _ _ c.copy.result e.done e.usage e.not_built e.file e.script e.limit e.read_counts e.write_counts
-
-pub returns-in-Rewrite-clause-file_due : goal.returns-in-Rewrite-clause-file_due
-returns-in-Rewrite-clause-file_due g c = λ fault faulty calm.
-    let asked = ap asked_of (sym c.as_slice.ensures) ∙ c.in-Rewrite.ensures in
-    let is = subst (λ a. IsFaulty g.D.Desk.tells (g.D.Desk.shows c.args.desk.now) a fault) asked faulty in
-    let e = c.rewrite.ensures in
-    rewrite_faulty c.reading_is_exact.ensures g.D.Desk.tells _ _ fault is _ _ calm _ _ _ _ c.rewrite.result e.done e.usage e.not_built e.file e.script e.limit e.read_counts e.write_counts
+    if-told _ _ g.D.Desk.tells.held _ c.rewrite.result
+    (λ held. subst (λ l. Answers c.rewrite.result (answer_for (g.D.Desk.shows c.args.desk.now) l) (g.D.Desk.faults c.args.desk.now) (g.D.Desk.faults c.rewrite.new.desk)) (sym line)
+    (rewrite-answers _ _ c.reading_is_exact.ensures g.D.Desk.tells _ _ _ held _ _ _ c.rewrite.result e.done e.usage e.not_built e.file e.script e.limit e.stopped e.counts))

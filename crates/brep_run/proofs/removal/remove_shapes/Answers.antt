@@ -10,7 +10,7 @@ use Rattle.brep_run.proofs.Answered.{IfOk-weaker}
 use Rattle.brep_run.proofs.CopyLemmas.{file-sound}
 use Rattle.brep_run.proofs.RemovalTrees.{kept-file}
 use Rattle.brep_run.proofs.RemovalDone.{Laws, stays-done, goes-done}
-use Rattle.brep_run.proofs.removal.without.Goals as goal
+use Rattle.brep_run.proofs.removal.remove_shapes.Goals as goal
 
 pub order_of-requires : goal.order_of-requires
 order_of-requires c = record {

@@ -1,13 +1,12 @@
-//! What the words of a command ask for.
+//! The command line: which command the words spell, and the names that it reads and writes.
 ghost use Rattle.std.specs.Prelude.{◌≡◌};
-ghost use Rattle.brep_run.specs.Words.{asked_of, copy_of_names, is_later, may_copy, may_rewrite, rewrite_of_names};
-ghost use Rattle.brep_run.specs.Asking.{IsAsked};
+ghost use Rattle.brep_run.specs.CommandLine.{IsCommandLine, command_line_of, copy_of_names, is_later, may_copy, may_rewrite, rewrite_of_names};
 
 use brep_desk::NameText;
 
-/// What is asked for.
+/// A command with its names, which are borrowed from the words.
 #[derive(Clone, Copy)]
-pub(crate) enum Request<'a> {
+pub(crate) enum CommandLine<'a> {
     Copy {
         source: &'a str,
         target: &'a str,
@@ -42,69 +41,69 @@ fn is_later_command(word: &str) -> bool
     word == "list" || word == "walk" || word == "gen"
 }
 
-fn copy_request(names: &[NameText]) -> Request<'_>
-    ensures { IsAsked result (copy_of_names names.now) }
+fn copy_line(names: &[NameText]) -> CommandLine<'_>
+    ensures { IsCommandLine result (copy_of_names names.now) }
 {
     match names {
-        [] => Request::Wrong,
-        [_a] => Request::Wrong,
+        [] => CommandLine::Wrong,
+        [_a] => CommandLine::Wrong,
         [source, target] => {
             if may_be_copied(source.text(), target.text()) {
-                Request::Copy {
+                CommandLine::Copy {
                     source: source.text(),
                     target: target.text(),
                 }
             } else {
-                Request::Wrong
+                CommandLine::Wrong
             }
         }
-        [_a, _b, _c, ..] => Request::Wrong,
+        [_a, _b, _c, ..] => CommandLine::Wrong,
     }
 }
 
-fn rewrite_request(names: &[NameText]) -> Request<'_>
-    ensures { IsAsked result (rewrite_of_names names.now) }
+fn rewrite_line(names: &[NameText]) -> CommandLine<'_>
+    ensures { IsCommandLine result (rewrite_of_names names.now) }
 {
     match names {
-        [] => Request::Wrong,
-        [_a] => Request::Wrong,
-        [_a, _b] => Request::Wrong,
-        [_a, _b, _c] => Request::Wrong,
+        [] => CommandLine::Wrong,
+        [_a] => CommandLine::Wrong,
+        [_a, _b] => CommandLine::Wrong,
+        [_a, _b, _c] => CommandLine::Wrong,
         [source, script, target, history] => {
             if may_be_rewritten(source.text(), script.text(), target.text(), history.text()) {
-                Request::Rewrite {
+                CommandLine::Rewrite {
                     source: source.text(),
                     script: script.text(),
                     target: target.text(),
                     history: history.text(),
                 }
             } else {
-                Request::Wrong
+                CommandLine::Wrong
             }
         }
-        [_a, _b, _c, _d, _e, ..] => Request::Wrong,
+        [_a, _b, _c, _d, _e, ..] => CommandLine::Wrong,
     }
 }
 
-/// What the words ask for. No words at all are the same as `copy - -`.
-#[tactic(auto, unfolding(crate::specs::Words::asked_of))]
-pub(crate) fn asked(words: &[NameText]) -> Request<'_>
-    ensures { IsAsked result (asked_of words.now) }
+/// The command line that the words spell. No words at all are the same as `copy - -`.
+#[tactic(auto, unfolding(crate::specs::CommandLine::command_line_of))]
+pub(crate) fn command_line(words: &[NameText]) -> CommandLine<'_>
+    ensures { IsCommandLine result (command_line_of words.now) }
 {
     match words {
-        [] => Request::Copy {
+        [] => CommandLine::Copy {
             source: "-",
             target: "-",
         },
         [word, rest @ ..] => {
             if word.text() == "copy" {
-                copy_request(rest)
+                copy_line(rest)
             } else if word.text() == "rewrite" {
-                rewrite_request(rest)
+                rewrite_line(rest)
             } else if is_later_command(word.text()) {
-                Request::Later
+                CommandLine::Later
             } else {
-                Request::Wrong
+                CommandLine::Wrong
             }
         }
     }

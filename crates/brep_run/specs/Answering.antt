@@ -1,0 +1,85 @@
+-- What a run answers for what the names that it reads hold, where no call of the desk fails and memory is there.
+use Rattle.std.specs.Prelude.{◌≡◌, ◌⊎◌, ℕ, ◌+◌, if◌then◌else◌, nat_lt, List, length, Option, Some, None, Result, Ok, Err}
+use Rattle.brep_desk.specs.Shown.{Shown, Tells}
+use Rattle.brep_desk.specs.Causes.{Rose}
+use Rattle.brep_tokens.specs.declared.fault.ReadFault.{ReadFault}
+use Rattle.brep_file.specs.declared.file.File.{File}
+use Rattle.brep_file.specs.FileReading.{read_text}
+use Rattle.brep_file.specs.Sound.{file_limits}
+use Rattle.script_text.specs.Lines.{script_line_count}
+use Rattle.script_text.specs.declared.command.LineFault.{LineFault}
+use Rattle.script_text.specs.declared.command.LineFault.TheVariants as line_faults
+use Rattle.brep_run.specs.declared.outcome.LimitKind.{LimitKind}
+use Rattle.brep_run.specs.declared.outcome.LimitKind.TheVariants.{FileBytes, ScriptBytes, ScriptLines}
+use Rattle.brep_run.specs.declared.outcome.Outcome.{Outcome}
+use Rattle.brep_run.specs.declared.outcome.Outcome.TheVariants as outcomes
+use Rattle.brep_run.specs.declared.outcome.ScriptCode.TheVariants.{Syntax, NoSuchShape, NoSuchLocation}
+use Rattle.brep_run.specs.CommandLine.{CommandLine, copies, rewrites, later, wrong, command_line_of}
+use Rattle.brep_run.specs.Copy.{most_bytes}
+use Rattle.brep_run.specs.Outcomes.{IsReadDeskOrNoMemory}
+use Rattle.brep_run.specs.Rewrite.{given_for, location_count, most_script_bytes, most_script_lines}
+use Rattle.brep_run.specs.Script.{ScriptGiven, removals, faulty, unbuilt}
+
+pub data Answer : Type 0 where
+  -- this outcome
+  outcome : Outcome → Answer
+  -- a fault of reading: a name that is to be read isn't held
+  reading_fails : Answer
+  -- the desk doesn't tell what its names hold
+  untold : Answer
+
+-- a count that is over its limit is answered, before what comes next
+abbrev pub within : LimitKind → ℕ → ℕ → Answer → Answer
+within which most count next = if nat_lt most count then outcome (outcomes.Limit which (most + 1)) else next
+
+-- ---- reading IN: its length, then its first fault
+
+abbrev pub if_read : (File → Answer) → Result File ReadFault → Answer
+if_read next (Ok f) = next f
+if_read next (Err fault) = outcome (outcomes.File fault)
+
+abbrev pub if_file : (File → Answer) → Option (List ℕ) → Answer
+if_file next None = reading_fails
+if_file next (Some bytes) = within FileBytes most_bytes (length bytes) (if_read next (read_text file_limits bytes))
+
+-- ---- reading SCRIPT: its length, then its number of lines, then its first faulty line
+
+abbrev pub line_answer : ℕ → ℕ → ℕ → LineFault → Outcome
+line_answer shapes locations line line_faults.Syntax = outcomes.Script (record { line = line; code = Syntax; first = 0; second = 0 })
+line_answer shapes locations line (line_faults.NoSuchShape n) = outcomes.Script (record { line = line; code = NoSuchShape; first = n; second = shapes })
+line_answer shapes locations line (line_faults.NoSuchLocation n) = outcomes.Script (record { line = line; code = NoSuchLocation; first = n; second = locations })
+line_answer shapes locations line line_faults.NoMemory = outcomes.NoMemory
+
+abbrev pub if_removals : ℕ → ℕ → ScriptGiven → Outcome
+if_removals shapes locations (removals numbers) = outcomes.Done
+if_removals shapes locations (faulty line fault) = line_answer shapes locations line fault
+if_removals shapes locations unbuilt = outcomes.NotBuilt
+
+abbrev pub lines_answer : File → List ℕ → Outcome
+lines_answer f lines = if_removals (length f.records) (location_count f) (given_for f lines)
+
+abbrev pub if_script : Option (List ℕ) → File → Answer
+if_script None f = reading_fails
+if_script (Some lines) f =
+    within ScriptBytes most_script_bytes (length lines)
+    (within ScriptLines most_script_lines (script_line_count lines) (outcome (lines_answer f lines)))
+
+-- ---- each command
+
+-- A copy is answered as a rewriting is whose script is accepted.
+abbrev pub answer_for : Shown → CommandLine → Answer
+answer_for old (copies source target) = if_file (λ f. outcome outcomes.Done) (old.held source)
+answer_for old (rewrites source script target history) = if_file (if_script (old.held script)) (old.held source)
+answer_for old later = outcome outcomes.NotBuilt
+answer_for old wrong = outcome outcomes.Usage
+
+-- The answer to these words.
+abbrev pub answer_to : Tells → Shown → List (List ℕ) → Answer
+answer_to t old words = if t.held then answer_for old (command_line_of words) else untold
+
+-- The answer comes or want of memory, where the count of faults didn't rise; where a name isn't held, in any case a fault of
+-- reading or want of memory.
+abbrev pub Answers : Outcome → Answer → ℕ → ℕ → Type 0
+Answers result (outcome due) entry exit = (Rose entry exit → ⊥) → (result ≡ due) ⊎ (result ≡ outcomes.NoMemory)
+Answers result reading_fails entry exit = IsReadDeskOrNoMemory result
+Answers result untold entry exit = Unit {0}
