@@ -36,3 +36,4 @@ pub mod WordLaws
 pub mod Reading
 pub mod ReadFiles
 pub mod AnswerLaws
+pub mod CallCounts

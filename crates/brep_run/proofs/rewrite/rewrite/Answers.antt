@@ -2,6 +2,7 @@ use Rattle.std.proofs.Common.{subst}
 use Rattle.brep_run.specs.Inputs.{IsLinesStop}
 use Rattle.brep_run.proofs.Reading.{quiet-both, closed-both, done-after, stopped-after, due-made, limited-before, script-held, strays-both, unbuilt-before, refused-before}
 use Rattle.history_text.specs.HistoryText.{text_of}
+use Rattle.brep_run.proofs.CallCounts.{rose-after_reads}
 use Rattle.brep_run.proofs.rewrite.rewrite.Goals as goal
 
 pub returns-in-Err-read_script-clause-limit : goal.returns-in-Err-read_script-clause-limit
@@ -59,3 +60,8 @@ returns-in-Ok-rewriting_of-clause-strays g c = λ inputs.
 
 pub returns-in-Err-clause-strays : goal.returns-in-Err-clause-strays
 returns-in-Err-clause-strays g c = λ inputs. c.in-Err.ensures.strays inputs.source_held
+
+pub returns-in-Ok-rewriting_of-clause-calls_rose : goal.returns-in-Ok-rewriting_of-clause-calls_rose
+returns-in-Ok-rewriting_of-clause-calls_rose g c =
+    rose-after_reads g.D.Desk.tells (g.D.Desk.shows c.args.desk.now) (g.D.Desk.shows c.read_input.new.desk) (g.D.Desk.shows c.read_script.new.desk) (g.D.Desk.shows c.write_both.new.desk) c.write_both.result
+    c.in-Ok.ensures.writing_calls c.in-Ok-read_script.ensures.writing_calls c.write_both.ensures.writing_calls

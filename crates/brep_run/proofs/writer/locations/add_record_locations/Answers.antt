@@ -3,8 +3,8 @@ use Rattle.brep_run.proofs.LocationLoops.{data-within_section, adds-record, uses
 use Rattle.brep_run.proofs.WrittenTexts.{named_item}
 use Rattle.brep_run.proofs.writer.locations.add_record_locations.Goals as goal
 
-pub add_head_locations-requires-clause-places : goal.add_head_locations-requires-clause-places
-add_head_locations-requires-clause-places c = (
+pub add_head_locations-requires-clause-named : goal.add_head_locations-requires-clause-named
+add_head_locations-requires-clause-named c = (
   c.args.file.now.version,
   data-within_section c.args.file.now c.requires.tell c.renumbering_keeps_parts.ensures _ c.record_at-record.result.now
       (named_item c.args.file.now c.requires.tell c.args.order.now.numbers.items c.args.order.now.places.items c.requires.placed
