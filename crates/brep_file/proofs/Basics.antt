@@ -1,7 +1,8 @@
 -- Small steps of reading.
 use Rattle.std.proofs.Common.{◌≡◌, ◌&&◌, Bool, true, false, if◌then◌else◌, List, Option, Some, None, Result, Ok, Err, refl, ap, subst}
-use Rattle.entry_readers.specs.Reading.{Refusal, ◌>>=◌, spelled}
-use Rattle.entry_readers.proofs.Binds.{ok_is}
+use Rattle.lists.specs.Results.{◌>>=◌}
+use Rattle.entry_readers.specs.Reading.{Refusal, spelled}
+use Rattle.lists.proofs.Results.{ok_is}
 use Rattle.brep_tokens.specs.declared.text.Token.{Token}
 use Rattle.brep_tokens.specs.declared.fault.ReadCode.{ReadCode}
 

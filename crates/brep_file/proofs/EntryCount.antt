@@ -4,7 +4,7 @@ use Rattle.std.proofs.lemmas.List.{length-append}
 use Rattle.brep_tokens.specs.declared.text.Token.{Token}
 use Rattle.entry_readers.specs.Entries.{entries_from}
 use Rattle.entry_readers.specs.Reading.{Read}
-use Rattle.entry_readers.proofs.Binds.{bind_ok, ok_is}
+use Rattle.lists.proofs.Results.{bind_ok, ok_is}
 
 pub entries_longer : {A : Type 0} (read : List Token → Read A) (n : ℕ) (xs : List A) (ts rest : List Token) (ys : List A) → entries_from read xs n ts ≡ Ok (ys, rest) → length ys ≡ length xs + n
 entries_longer {A = A} read zero xs ts rest ys e =

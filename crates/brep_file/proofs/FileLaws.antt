@@ -7,9 +7,10 @@ use Rattle.std.proofs.lemmas.Bool.{leb-true, le-leb}
 use Rattle.brep_tokens.specs.Laws.{FormsAreExact}
 use Rattle.brep_tokens.specs.declared.text.Token.{Token}
 use Rattle.brep_tokens.specs.declared.fault.ReadCode.TheVariants as faults
-use Rattle.entry_readers.specs.Reading.{Read, fault, ◌>>=◌, at_token, ranged_at}
+use Rattle.lists.specs.Results.{◌>>=◌}
+use Rattle.entry_readers.specs.Reading.{Read, fault, at_token, ranged_at}
 use Rattle.entry_readers.specs.Begins.{Begins, IsExact, FieldsAreExact}
-use Rattle.entry_readers.proofs.Binds.{bind_ok, guard_ok, ok_is, Begins-then, Begins-split}
+use Rattle.lists.proofs.Results.{bind_ok, guard_ok, ok_is}
 use Rattle.orientation.specs.declared.turn.Turn.{Turn}
 use Rattle.orientation.specs.Laws.{SignsAndNamesTell}
 use Rattle.location_table.specs.Laws.{LocationsAreExact}
@@ -144,12 +145,12 @@ module _ {A : Type 0} (read : List Token → Read (List A)) (spell : List A → 
       let one = exact.takes ts s.0.1 s.0.0 s.1 in
       let others = later (put f s.0.0) s.0.1 rest g s.2 in
       let same : s.0.0 ≡ get g = sym (kept f s.0.0 g others.2) in
-      subst (λ (xs : List A). Begins ts (spell xs ++ tail g) rest × (P xs × Fits g) × Keeps (put f xs) g) same (Begins-then ts (spell s.0.0) s.0.1 (tail g) rest one.0 others.0, (one.1, others.1), others.2)
+      subst (λ (xs : List A). Begins ts (spell xs ++ tail g) rest × (P xs × Fits g) × Keeps (put f xs) g) same (fields.joined ts (spell s.0.0) s.0.1 (tail g) rest one.0 others.0, (one.1, others.1), others.2)
 
   table_again : ((f : File) (ts rest : List Token) (g : File) → Begins ts (tail g) rest → Fits g → Keeps f g → next f ts ≡ Ok (g, rest))
       → (f : File) (ts rest : List Token) (g : File) → Begins ts (spell (get g) ++ tail g) rest → P (get g) × Fits g → Keeps (put f (get g)) g → (read ts >>= λ x. next (put f x.0) x.1) ≡ Ok (g, rest)
   table_again later f ts rest g b fits keeps =
-      let s = Begins-split ts (spell (get g)) (tail g) rest b in
+      let s = fields.split ts (spell (get g)) (tail g) rest b in
       rw (exact.again ts s.0 (get g) s.1 fits.0) (later (put f (get g)) s.0 rest g s.2 fits.1 keeps)
 
 -- ---- what is spelled, and what is to be shown, from each section on
@@ -255,7 +256,7 @@ module _ (forms : FormsAreExact) (fields : FieldsAreExact) (names : SignsAndName
       let of_version : Begins h.0.1 (flat_map (spell_record f.version) g.records) r.0.1 = subst (λ rs. Begins h.0.1 (flat_map (spell_record f.version) rs) r.0.1) same read.spelled in
       let spelled : Begins h.0.1 (flat_map (spell_record g.version) g.records) r.0.1 = subst (λ (v : ℕ). Begins h.0.1 (flat_map (spell_record v) g.records) r.0.1) version of_version in
       let fit : FitAll most_reps b nothing_read g.records = subst (λ rs. FitAll most_reps b nothing_read rs) same read.fit in (
-        Begins-then ts (section (codes "TShapes") (spell_record g.version) g.records) r.0.1 (spell_use g.root) rest (Begins-then ts (codes "TShapes" ∷ decimal (length g.records) ∷ []) h.0.1 (flat_map (spell_record g.version) g.records) r.0.1 heading spelled) end.0,
+        fields.joined ts (section (codes "TShapes") (spell_record g.version) g.records) r.0.1 (spell_use g.root) rest (fields.joined ts (codes "TShapes" ∷ decimal (length g.records) ∷ []) h.0.1 (flat_map (spell_record g.version) g.records) r.0.1 heading spelled) end.0,
         (record { countable = subst (λ (n : ℕ). n < 10 ^ 18) count head.1; within = subst (λ (n : ℕ). n ≤ limits.records) count head.2; fit = subst (λ (c : RecordBounds). FitAll most_reps c nothing_read g.records) bounds fit }, end.1),
         subst (λ rs. KeepsRoot (record f { records = rs }) g) (sym kept) end.2,
       )
@@ -266,8 +267,8 @@ module _ (forms : FormsAreExact) (fields : FieldsAreExact) (names : SignsAndName
       let tables : sizes_of g ≡ sizes_of f = ap sizes_of keeps in
       let version : g.version ≡ f.version = ap (λ (h : File). h.version) keeps in
       let of_version : Begins ts (section (codes "TShapes") (spell_record f.version) g.records ++ spell_use g.root) rest = subst (λ (v : ℕ). Begins ts (section (codes "TShapes") (spell_record v) g.records ++ spell_use g.root) rest) version b in
-      let whole = Begins-split ts (section (codes "TShapes") (spell_record f.version) g.records) (spell_use g.root) rest of_version in
-      let parts = Begins-split ts (codes "TShapes" ∷ decimal (length g.records) ∷ []) (flat_map (spell_record f.version) g.records) whole.0 whole.1 in
+      let whole = fields.split ts (section (codes "TShapes") (spell_record f.version) g.records) (spell_use g.root) rest of_version in
+      let parts = fields.split ts (codes "TShapes" ∷ decimal (length g.records) ∷ []) (flat_map (spell_record f.version) g.records) whole.0 whole.1 in
       let fit_tables : FitAll most_reps (bounds_of g.version (sizes_of f) (length g.records) limits.uses) nothing_read g.records = subst (λ (t : HeadBounds). FitAll most_reps (bounds_of g.version t (length g.records) limits.uses) nothing_read g.records) tables fits.0.fit in
       let fit : FitAll most_reps (bounds_of f.version (sizes_of f) (length g.records) limits.uses) nothing_read g.records = subst (λ (v : ℕ). FitAll most_reps (bounds_of v (sizes_of f) (length g.records) limits.uses) nothing_read g.records) version fit_tables in
       rw (

@@ -5,7 +5,7 @@ use Rattle.std.specs.List.{flat_map}
 use Rattle.std.specs.Fmt.{decimal}
 use Rattle.brep_tokens.specs.declared.text.Token.{Token}
 use Rattle.entry_readers.specs.Begins.{Begins, IsExact, IsSmall, FieldsAreExact}
-use Rattle.entry_readers.proofs.Binds.{bind_ok, ok_is, Begins-then, Begins-split}
+use Rattle.lists.proofs.Results.{bind_ok, ok_is}
 use Rattle.location_table.specs.Laws.{LocationsAreExact}
 use Rattle.location_table.specs.Locations.{AreSoundAfter, AreSoundLocations, location_at, spell_location}
 use Rattle.location_table.specs.declared.entry.LocationEntry.{LocationEntry}
@@ -33,12 +33,12 @@ module _ (exact : LocationsAreExact) where
       let one = (exact.location before).takes ts l.0.1 l.0.0 l.1 in
       let left : locations_from (before ++ l.0.0 ∷ []) n l.0.1 ≡ Ok (all, rest) = subst (λ (q : List LocationEntry × List Token). locations_from q.0 n q.1 ≡ Ok (all, rest)) (sym pair) m.2 in
       let others = all_takes n (before ++ l.0.0 ∷ []) l.0.1 rest all left in
-      (l.0.0 ∷ others.0, others.1 ∙ append_assoc before (l.0.0 ∷ []) others.0, Begins-then ts (spell_location l.0.0) l.0.1 (flat_map spell_location others.0) rest one.0 others.2, ap suc others.3, (one.1, others.4))
+      (l.0.0 ∷ others.0, others.1 ∙ append_assoc before (l.0.0 ∷ []) others.0, fields.joined ts (spell_location l.0.0) l.0.1 (flat_map spell_location others.0) rest one.0 others.2, ap suc others.3, (one.1, others.4))
 
   all_again : (new before : List LocationEntry) (ts rest : List Token) → Begins ts (flat_map spell_location new) rest → AreSoundAfter before new → locations_from before (length new) ts ≡ Ok (before ++ new, rest)
   all_again [] before ts rest b sound = rw (b, append-nil before) refl
   all_again (e ∷ new) before ts rest b sound =
-      let s = Begins-split ts (spell_location e) (flat_map spell_location new) rest b in
+      let s = fields.split ts (spell_location e) (flat_map spell_location new) rest b in
       rw ((exact.location before).again ts s.0 e s.1 sound.0, all_again new (before ++ e ∷ []) s.0 rest s.2 sound.1, append_assoc before (e ∷ []) new) refl
 
   module _ (fields : FieldsAreExact) (most : ℕ) where
@@ -48,13 +48,13 @@ module _ (exact : LocationsAreExact) where
         let head = heading_takes fields (codes "Locations") most ts h.0.1 h.0.0 h.1 in
         let read = all_takes h.0.0 [] h.0.1 rest all h.2 in
         let whole : Begins ts (section (codes "Locations") spell_location read.0) rest =
-        subst (λ (n : ℕ). Begins ts (codes "Locations" ∷ decimal n ∷ flat_map spell_location read.0) rest) (sym read.3) (Begins-then ts (codes "Locations" ∷ decimal h.0.0 ∷ []) h.0.1 (flat_map spell_location read.0) rest head.0 read.2) in
+        subst (λ (n : ℕ). Begins ts (codes "Locations" ∷ decimal n ∷ flat_map spell_location read.0) rest) (sym read.3) (fields.joined ts (codes "Locations" ∷ decimal h.0.0 ∷ []) h.0.1 (flat_map spell_location read.0) rest head.0 read.2) in
         subst (λ (xs : List LocationEntry). Begins ts (section (codes "Locations") spell_location xs) rest × FitLocations most xs) (sym read.1)
         (whole, record { countable = subst IsSmall (sym read.3) head.1; sound = read.4; few = subst (λ (n : ℕ). n ≤ most) (sym read.3) head.2 })
 
     locations_again : (ts rest : List Token) (all : List LocationEntry) → Begins ts (section (codes "Locations") spell_location all) rest → FitLocations most all → locations_at most ts ≡ Ok (all, rest)
     locations_again ts rest all b fit =
-        let s = Begins-split ts (codes "Locations" ∷ decimal (length all) ∷ []) (flat_map spell_location all) rest b in
+        let s = fields.split ts (codes "Locations" ∷ decimal (length all) ∷ []) (flat_map spell_location all) rest b in
         rw (heading_again fields (codes "Locations") most ts s.0 (length all) s.1 fit.countable fit.few, all_again all [] s.0 rest s.2 fit.sound) refl
 
     pub locations_section : IsExact (locations_at most) (section (codes "Locations") spell_location) (FitLocations most)

@@ -7,7 +7,7 @@ use Rattle.brep_tokens.specs.Laws.{FormsAreExact}
 use Rattle.brep_tokens.specs.declared.text.Token.{Token}
 use Rattle.entry_readers.specs.Reading.{Read}
 use Rattle.entry_readers.specs.Begins.{Begins, IsExact, FieldsAreExact}
-use Rattle.entry_readers.proofs.Binds.{Begins-split, ok_is}
+use Rattle.lists.proofs.Results.{ok_is}
 use Rattle.orientation.specs.Laws.{SignsAndNamesTell}
 use Rattle.location_table.specs.Laws.{LocationsAreExact}
 use Rattle.location_table.specs.Locations.{spell_location}
@@ -52,8 +52,8 @@ module _ {A : Type 0} (read : List Token → Read A) (spell : A → List (List �
 
   pub one_value : (x y : A) (tail_x tail_y : List (List ℕ)) (ts rest other : List Token) → P x → P y → Begins ts (spell x ++ tail_x) rest → Begins ts (spell y ++ tail_y) other → AreOne x y tail_x tail_y rest other
   one_value x y tail_x tail_y ts rest other is_x is_y begins_x begins_y =
-      let s = Begins-split ts (spell x) tail_x rest begins_x in
-      let t = Begins-split ts (spell y) tail_y other begins_y in
+      let s = fields.split ts (spell x) tail_x rest begins_x in
+      let t = fields.split ts (spell y) tail_y other begins_y in
       let pair = ok_is (x, s.0) (y, t.0) (sym (exact.again ts s.0 x s.1 is_x) ∙ exact.again ts t.0 y t.1 is_y) in
       record {
         same = ap (λ (q : A × List Token). q.0) pair;
@@ -70,8 +70,8 @@ module _ (forms : FormsAreExact) (fields : FieldsAreExact) (names : SignsAndName
 
   one_record : (s : SoFar) (r q : Record) (ts rest other : List Token) → FitsRecord reps b s r → FitsRecord reps b s q → Begins ts (spell_record b.version r) rest → Begins ts (spell_record b.version q) other → (r ≡ q) × (rest ≡ other)
   one_record s r q ts rest other fits_r fits_q begins_r begins_q =
-      let x = Begins-split ts (spell_head b.version r.head) (spell_uses r.uses) rest begins_r in
-      let y = Begins-split ts (spell_head b.version q.head) (spell_uses q.uses) other begins_q in
+      let x = fields.split ts (spell_head b.version r.head) (spell_uses r.uses) rest begins_r in
+      let y = fields.split ts (spell_head b.version q.head) (spell_uses q.uses) other begins_q in
       let heads = tell b.tables b.version r.head q.head ts x.0 y.0 fits_r.sound fits_q.sound x.1 y.1 in
       let head : r.head ≡ q.head = ap (λ (p : Head × List Token). p.0) heads in
       let between : x.0 ≡ y.0 = ap (λ (p : Head × List Token). p.1) heads in
@@ -89,8 +89,8 @@ module _ (forms : FormsAreExact) (fields : FieldsAreExact) (names : SignsAndName
   one_list s [] (q ∷ qs) ts rest other count fit_r fit_q begins_r begins_q = absurd (omega (arith, count))
   one_list s (r ∷ rs) [] ts rest other count fit_r fit_q begins_r begins_q = absurd (omega (arith, count))
   one_list s (r ∷ rs) (q ∷ qs) ts rest other count fit_r fit_q begins_r begins_q =
-      let x = Begins-split ts (spell_record b.version r) (flat_map (spell_record b.version) rs) rest begins_r in
-      let y = Begins-split ts (spell_record b.version q) (flat_map (spell_record b.version) qs) other begins_q in
+      let x = fields.split ts (spell_record b.version r) (flat_map (spell_record b.version) rs) rest begins_r in
+      let y = fields.split ts (spell_record b.version q) (flat_map (spell_record b.version) qs) other begins_q in
       let first = one_record s r q ts x.0 y.0 fit_r.0 fit_q.0 x.1 y.1 in
       let fit : FitAll reps b (after b.records s r) qs = subst (λ (z : Record). FitAll reps b (after b.records s z) qs) (sym first.0) fit_q.1 in
       let begins : Begins x.0 (flat_map (spell_record b.version) qs) other = subst (λ (m : List Token). Begins m (flat_map (spell_record b.version) qs) other) (sym first.1) y.2 in
@@ -141,10 +141,10 @@ module _ (forms : FormsAreExact) (fields : FieldsAreExact) (names : SignsAndName
   one_from_records : (f g : File) (ts rest other : List Token) → AreAlike f g → FitRecords reps limits f → FitRecords reps limits g → FitsEnd f → FitsEnd g → Begins ts (spell_from_records f) rest → Begins ts (spell_from_records g) other → f ≡ g
   one_from_records f g ts rest other alike fit_f fit_g end_f end_g begins_f begins_g =
       let word = codes "TShapes" in
-      let whole_f = Begins-split ts (section word (spell_record f.version) f.records) (spell_use f.root) rest begins_f in
-      let whole_g = Begins-split ts (section word (spell_record g.version) g.records) (spell_use g.root) other begins_g in
-      let parts_f = Begins-split ts (word ∷ decimal (length f.records) ∷ []) (flat_map (spell_record f.version) f.records) whole_f.0 whole_f.1 in
-      let parts_g = Begins-split ts (word ∷ decimal (length g.records) ∷ []) (flat_map (spell_record g.version) g.records) whole_g.0 whole_g.1 in
+      let whole_f = fields.split ts (section word (spell_record f.version) f.records) (spell_use f.root) rest begins_f in
+      let whole_g = fields.split ts (section word (spell_record g.version) g.records) (spell_use g.root) other begins_g in
+      let parts_f = fields.split ts (word ∷ decimal (length f.records) ∷ []) (flat_map (spell_record f.version) f.records) whole_f.0 whole_f.1 in
+      let parts_g = fields.split ts (word ∷ decimal (length g.records) ∷ []) (flat_map (spell_record g.version) g.records) whole_g.0 whole_g.1 in
       let heading_f = heading_again fields word limits.records ts parts_f.0 (length f.records) parts_f.1 fit_f.countable fit_f.within in
       let heading_g = heading_again fields word limits.records ts parts_g.0 (length g.records) parts_g.1 fit_g.countable fit_g.within in
       let pair = ok_is (length f.records, parts_f.0) (length g.records, parts_g.0) (sym heading_f ∙ heading_g) in

@@ -5,7 +5,8 @@ use Rattle.brep_tokens.specs.State.{Scan}
 use Rattle.brep_tokens.specs.declared.fault.ReadStop.{ReadStop}
 use Rattle.brep_tokens.specs.declared.fault.ReadStop.TheVariants as stops
 use Rattle.brep_tokens.specs.declared.text.Token.{Token}
-use Rattle.entry_readers.specs.Reading.{Read, more, fault, ◌>>=◌}
+use Rattle.lists.specs.Results.{◌>>=◌}
+use Rattle.entry_readers.specs.Reading.{Read, more, fault}
 use Rattle.entry_readers.specs.Takes.{Stops}
 use Rattle.brep_file.specs.Giving.{front, missing_at, GoesTo, Fails, Gives}
 

@@ -2,7 +2,7 @@
 use Rattle.std.proofs.Common.{◌≡◌, ℕ, zero, suc, ◌+◌, List, length, Ok, ap, sym, ◌∙◌, arith}
 use Rattle.std.proofs.lemmas.List.{length-append}
 use Rattle.brep_tokens.specs.declared.text.Token.{Token}
-use Rattle.entry_readers.proofs.Binds.{bind_ok, ok_is}
+use Rattle.lists.proofs.Results.{bind_ok, ok_is}
 use Rattle.tshape_data.specs.HeadReading.{head_at}
 use Rattle.brep_file.specs.Many.{many_from}
 use Rattle.brep_file.specs.RecordReading.{RecordBounds, SoFar, none_gathered, record_at, used, uses_from, with_record}

@@ -4,7 +4,7 @@ use Rattle.std.specs.List.{flat_map, AllByRecursion}
 use Rattle.brep_tokens.specs.Laws.{FormsAreExact}
 use Rattle.brep_tokens.specs.declared.text.Token.{Token}
 use Rattle.entry_readers.specs.Begins.{Begins, FieldsAreExact}
-use Rattle.entry_readers.proofs.Binds.{bind_ok, ok_is, Begins-then, Begins-split}
+use Rattle.lists.proofs.Results.{bind_ok, ok_is}
 use Rattle.orientation.specs.Laws.{SignsAndNamesTell}
 use Rattle.tshape_data.specs.HeadReading.{head_at}
 use Rattle.tshape_data.specs.Laws.{HeadsAreExact}
@@ -74,14 +74,14 @@ module _ (forms : FormsAreExact) (fields : FieldsAreExact) (names : SignsAndName
       let pair = ok_is (with_record s h.0.0 u.0.0, u.0.1) (x, rest) u.2 in
       record {
         one = made;
-        spelled = subst (λ (r : List Token). Begins ts (spell_record b.version made) r) (ap (λ (q : SoFar × List Token). q.1) pair) (Begins-then ts (spell_head b.version h.0.0) h.0.1 (spell_uses taken.taken) u.0.1 head.0 taken.spelled);
+        spelled = subst (λ (r : List Token). Begins ts (spell_record b.version made) r) (ap (λ (q : SoFar × List Token). q.1) pair) (fields.joined ts (spell_head b.version h.0.0) h.0.1 (spell_uses taken.taken) u.0.1 head.0 taken.spelled);
         fits = record { sound = head.1.sound; uses = taken.fits; few = omega (arith, taken.few); few_reps = head.1.few };
         result = sym (ap (λ (q : SoFar × List Token). q.0) pair) ∙ ap (with_record s h.0.0) taken.result;
       }
 
   record_again : (s : SoFar) (r : Record) (ts rest : List Token) → Begins ts (spell_record b.version r) rest → FitsRecord most_reps b s r → record_at b s ts ≡ Ok (after b.records s r, rest)
   record_again s r ts rest begins fits =
-      let split = Begins-split ts (spell_head b.version r.head) (spell_uses r.uses) rest begins in
+      let split = fields.split ts (spell_head b.version r.head) (spell_uses r.uses) rest begins in
       rw ((heads (record b.tables { reps = s.reps }) b.version (omega (arith, fits.few_reps))).again ts split.0 r.head split.1 (record { sound = fits.sound; few = fits.few_reps }), uses_again forms fields b s r.head.kind names r.uses none_gathered split.0 rest split.2 fits.uses (omega (arith, fits.few))) refl
 
   -- ---- all records
@@ -100,7 +100,7 @@ module _ (forms : FormsAreExact) (fields : FieldsAreExact) (names : SignsAndName
       record {
         all = first.one ∷ others.all;
         many = ap suc others.many;
-        spelled = Begins-then ts (spell_record b.version first.one) r.0.1 (flat_map (spell_record b.version) others.all) rest first.spelled others.spelled;
+        spelled = fields.joined ts (spell_record b.version first.one) r.0.1 (flat_map (spell_record b.version) others.all) rest first.spelled others.spelled;
         fit = (first.fits, subst (λ (before : SoFar). FitAll most_reps b before others.all) first.result others.fit);
         result = others.result ∙ ap (λ (before : SoFar). after_all b.records before others.all) first.result;
       }
@@ -108,5 +108,5 @@ module _ (forms : FormsAreExact) (fields : FieldsAreExact) (names : SignsAndName
   pub records_again : (rs : List Record) (s : SoFar) (ts rest : List Token) → Begins ts (flat_map (spell_record b.version) rs) rest → FitAll most_reps b s rs → many_from (record_at b) s (length rs) ts ≡ Ok (after_all b.records s rs, rest)
   records_again [] s ts rest begins fit = rw begins refl
   records_again (r ∷ rs) s ts rest begins fit =
-      let split = Begins-split ts (spell_record b.version r) (flat_map (spell_record b.version) rs) rest begins in
+      let split = fields.split ts (spell_record b.version r) (flat_map (spell_record b.version) rs) rest begins in
       rw (record_again s r ts split.0 split.1 fit.0) (records_again rs (after b.records s r) split.0 rest split.2 fit.1)

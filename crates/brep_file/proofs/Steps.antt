@@ -1,7 +1,8 @@
 -- Steps of reading so many things.
 use Rattle.std.proofs.Common.{◌≡◌, ℕ, zero, suc, ◌-◌, ◌<◌, ◌==◌, false, List, [], Ok, Err, refl, arith}
 use Rattle.std.proofs.lemmas.Bool.Decides.{nat_tests}
-use Rattle.entry_readers.specs.Reading.{Read, more, ◌>>=◌}
+use Rattle.lists.specs.Results.{◌>>=◌}
+use Rattle.entry_readers.specs.Reading.{Read, more}
 use Rattle.brep_tokens.specs.declared.text.Token.{Token}
 use Rattle.brep_file.specs.Many.{many_from, many_left}
 

@@ -11,9 +11,10 @@ use Rattle.brep_tokens.specs.Forms.{number_of}
 use Rattle.brep_tokens.specs.Laws.{FormsAreExact}
 use Rattle.brep_tokens.specs.declared.text.Token.{Token}
 use Rattle.brep_tokens.specs.declared.fault.ReadCode.TheVariants as faults
-use Rattle.entry_readers.specs.Reading.{Refusal, more, fault, ◌>>=◌, at_token, ranged_at}
+use Rattle.lists.specs.Results.{◌>>=◌}
+use Rattle.entry_readers.specs.Reading.{Refusal, more, fault, at_token, ranged_at}
 use Rattle.entry_readers.specs.Begins.{Begins, FieldsAreExact}
-use Rattle.entry_readers.proofs.Binds.{bind_ok, guard_ok, ok_is}
+use Rattle.lists.proofs.Results.{bind_ok, guard_ok, ok_is}
 use Rattle.orientation.specs.declared.turn.Turn.{Turn}
 use Rattle.orientation.specs.declared.turn.Turn.TheVariants.{Forward, Reversed, Internal, External}
 use Rattle.orientation.specs.declared.kind.Kind.{Kind}

@@ -5,7 +5,8 @@ use Rattle.brep_tokens.specs.Tokens.{Word, Head, missing, unread, version, head_
 use Rattle.brep_tokens.specs.declared.text.Token.{Token}
 use Rattle.brep_tokens.specs.declared.fault.ReadFault.{ReadFault}
 use Rattle.brep_tokens.specs.declared.fault.ReadCode.TheVariants as faults
-use Rattle.entry_readers.specs.Reading.{Read, fault, more, ◌>>=◌, at_token}
+use Rattle.lists.specs.Results.{◌>>=◌}
+use Rattle.entry_readers.specs.Reading.{Read, fault, more, at_token}
 use Rattle.orientation.specs.declared.turn.Turn.TheVariants.{Forward}
 use Rattle.curve_tables.specs.Curves.{curve2_at, curve3_at}
 use Rattle.surface_tables.specs.Surfaces.{surface_at}

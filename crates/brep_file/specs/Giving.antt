@@ -7,7 +7,8 @@ use Rattle.brep_tokens.specs.declared.fault.ReadFault.{ReadFault}
 use Rattle.brep_tokens.specs.declared.fault.ReadStop.{ReadStop}
 use Rattle.brep_tokens.specs.declared.fault.ReadStop.TheVariants as stops
 use Rattle.brep_tokens.specs.declared.text.Token.{Token}
-use Rattle.entry_readers.specs.Reading.{Read, more, fault, ◌>>=◌}
+use Rattle.lists.specs.Results.{◌>>=◌}
+use Rattle.entry_readers.specs.Reading.{Read, more, fault}
 use Rattle.brep_file.specs.declared.file.File.{File}
 use Rattle.brep_file.specs.FileReading.{closed, from_curve2s, from_root, read_head, short_front, too_long, unfinished}
 use Rattle.brep_file.specs.Sound.{Limits, file_limits, sizes_of}

@@ -1,7 +1,8 @@
 -- What the reader of locations has still to read.
 use Rattle.std.specs.Prelude.{◌+◌, ◌<◌, ◌≤◌, ℕ, List, [], ◌∷◌, ◌++◌, length, Ok}
 use Rattle.brep_tokens.specs.declared.text.Token.{Token}
-use Rattle.entry_readers.specs.Reading.{Read, ◌>>=◌}
+use Rattle.lists.specs.Results.{◌>>=◌}
+use Rattle.entry_readers.specs.Reading.{Read}
 use Rattle.location_table.specs.declared.entry.LocationEntry.{LocationEntry}
 use Rattle.location_table.specs.declared.reader.LocationReader.{LocationReader}
 use Rattle.location_table.specs.Left.{location_left, IsWaiting as IsWaitingLocation}

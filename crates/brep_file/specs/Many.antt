@@ -1,7 +1,8 @@
 -- Reading so many things, each after those before it.
 use Rattle.std.specs.Prelude.{◌-◌, ℕ, zero, suc, ◌==◌, if◌then◌else◌, List, Ok}
 use Rattle.brep_tokens.specs.declared.text.Token.{Token}
-use Rattle.entry_readers.specs.Reading.{Read, ◌>>=◌}
+use Rattle.lists.specs.Results.{◌>>=◌}
+use Rattle.entry_readers.specs.Reading.{Read}
 
 -- `step` reads one more, and gives all that were read
 module _ {S : Type 0} (step : S → List Token → Read S) where

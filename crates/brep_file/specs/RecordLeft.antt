@@ -2,7 +2,8 @@
 use Rattle.std.specs.Prelude.{◌≡◌, ◌+◌, ◌<◌, ◌≤◌, ◌⊎◌, ℕ, List, length, Option, Some, None, Result, Ok, Err}
 use Rattle.brep_tokens.specs.declared.text.Token.{Token}
 use Rattle.brep_tokens.specs.declared.fault.ReadFault.{ReadFault}
-use Rattle.entry_readers.specs.Reading.{Read, Refusal, fault, ◌>>=◌}
+use Rattle.lists.specs.Results.{◌>>=◌}
+use Rattle.entry_readers.specs.Reading.{Read, Refusal, fault}
 use Rattle.orientation.specs.declared.kind.Kind.{Kind}
 use Rattle.tshape_data.specs.HeadLeft.{head_left, IsWaiting as IsWaitingHead}
 use Rattle.tshape_data.specs.RepReading.{most_reps}

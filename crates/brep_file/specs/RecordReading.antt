@@ -5,7 +5,8 @@ use Rattle.std.specs.Option.{option_map}
 use Rattle.brep_tokens.specs.Forms.{number_of}
 use Rattle.brep_tokens.specs.declared.text.Token.{Token}
 use Rattle.brep_tokens.specs.declared.fault.ReadCode.TheVariants as faults
-use Rattle.entry_readers.specs.Reading.{Read, Refusal, fault, more, ◌>>=◌, at_token, ranged_at, refused}
+use Rattle.lists.specs.Results.{◌>>=◌}
+use Rattle.entry_readers.specs.Reading.{Read, Refusal, fault, more, at_token, ranged_at, refused}
 use Rattle.orientation.specs.declared.turn.Turn.{Turn}
 use Rattle.orientation.specs.declared.kind.Kind.{Kind}
 use Rattle.orientation.specs.Kinds.{is_below, rank_of}

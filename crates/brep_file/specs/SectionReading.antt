@@ -2,7 +2,8 @@
 use Rattle.std.specs.Prelude.{ℕ, if◌then◌else◌, nat_le, List, [], ◌∷◌, ◌++◌, Ok, Err, codes}
 use Rattle.brep_tokens.specs.declared.text.Token.{Token}
 use Rattle.brep_tokens.specs.declared.fault.ReadCode.TheVariants as faults
-use Rattle.entry_readers.specs.Reading.{Read, fault, more, ◌>>=◌, at_token, number_at, word_at}
+use Rattle.lists.specs.Results.{◌>>=◌}
+use Rattle.entry_readers.specs.Reading.{Read, fault, more, at_token, number_at, word_at}
 use Rattle.entry_readers.specs.Entries.{entries_from}
 use Rattle.location_table.specs.Locations.{location_at}
 use Rattle.location_table.specs.declared.entry.LocationEntry.{LocationEntry}

@@ -4,12 +4,13 @@ use Rattle.std.proofs.lemmas.Bool.{eqb-true}
 use Rattle.std.proofs.Common.{◌⊎◌, inl, inr, ◌≡◌, ℕ, zero, suc, ◌+◌, ◌*◌, ◌<◌, ◌≤◌, Bool, true, false, if◌then◌else◌, ◌==◌, List, [], ◌∷◌, ◌++◌, length, Result, Ok, Err, refl, sym, ap, subst, ◌∙◌, append_assoc, append-nil, arith}
 use Rattle.std.specs.List.{AllByRecursion, flat_map}
 use Rattle.std.specs.Fmt.{decimal}
-use Rattle.entry_readers.specs.Reading.{Read, Refusal, ◌>>=◌, fault, at_token, number_at, flag_at, decimals_at, knots_at}
+use Rattle.lists.specs.Results.{◌>>=◌}
+use Rattle.entry_readers.specs.Reading.{Read, Refusal, fault, at_token, number_at, flag_at, decimals_at, knots_at}
 use Rattle.brep_tokens.specs.Forms.{flag_text}
 use Rattle.entry_readers.specs.Begins.{Begins, AreDecimals, AreKnots, IsSmall, spell_knots, FieldsAreExact}
 use Rattle.brep_tokens.specs.declared.text.Token.{Token}
 use Rattle.brep_tokens.specs.declared.fault.ReadCode.TheVariants as codes
-use Rattle.entry_readers.proofs.Binds.{bind_ok, guard_ok, ok_is, Begins-then, Begins-split}
+use Rattle.lists.proofs.Results.{bind_ok, guard_ok, ok_is}
 use Rattle.curve_tables.specs.Counts.{plain_size, per_pole, wrap_size}
 use Rattle.curve_tables.specs.Chains.{Chain, chain_at, code_at, coded_at, leaf_at, bezier_at, spline_at, wrapped_at, is_code}
 use Rattle.curve_tables.specs.Parts.{wrap_code, spell_frame, spell_form, spell_leaf, form_size, IsForm, IsFrame, ChainsAreExact}
@@ -56,12 +57,12 @@ module _ (fields : FieldsAreExact) where
       let one = (fields.decimals size).takes ts x.0.1 x.0.0 x.1 in
       let two = (fields.knots count).takes x.0.1 k.0.1 k.0.0 k.1 in
       let leaf : IsLeaf frames form size count ts k.0.1 (record { frames = frames; form = form; texts = x.0.0; knots = k.0.0 }) =
-      record { frames = refl; form = refl; begins = Begins-then ts x.0.0 x.0.1 (spell_knots k.0.0) k.0.1 one.0 two.0; texts = one.1; knots = two.1 } in
+      record { frames = refl; form = refl; begins = fields.joined ts x.0.0 x.0.1 (spell_knots k.0.0) k.0.1 one.0 two.0; texts = one.1; knots = two.1 } in
       subst (λ (q : Chain × List Token). IsLeaf frames form size count ts q.1 q.0) p leaf
 
   leaf_again : (d : Dimension) (c : Chain) (size count : ℕ) (ts rest : List Token) → Begins ts (c.texts ++ spell_knots c.knots) rest → AreDecimals size c.texts → AreKnots count c.knots → leaf_at d c.frames c.form size count ts ≡ Ok (c, rest)
   leaf_again d c size count ts rest b texts knots =
-      let s = Begins-split ts c.texts (spell_knots c.knots) rest b in
+      let s = fields.split ts c.texts (spell_knots c.knots) rest b in
       rw ((fields.decimals size).again ts s.0 c.texts s.1 texts, (fields.knots count).again s.0 rest c.knots s.2 knots) refl
 
   -- ---- the numbers of a curve, and its leaf
@@ -83,7 +84,7 @@ module _ (fields : FieldsAreExact) where
         form = rw (n, leaf.form) is;
         texts = rw leaf.form leaf.texts;
         knots = rw n leaf.knots;
-        begins = λ all b. rw (n, leaf.form) (Begins-then all (spell_form form count) ts (c.texts ++ spell_knots c.knots) rest b leaf.begins);
+        begins = λ all b. rw (n, leaf.form) (fields.joined all (spell_form form count) ts (c.texts ++ spell_knots c.knots) rest b leaf.begins);
       }
 
   -- one more text in front
@@ -94,7 +95,7 @@ module _ (fields : FieldsAreExact) where
     form = is.form;
     texts = is.texts;
     knots = is.knots;
-    begins = λ all b. is.begins all (Begins-then all before ts (text ∷ []) mid b one);
+    begins = λ all b. is.begins all (fields.joined all before ts (text ∷ []) mid b one);
   }
 
   module _ (d : Dimension) (fs : List Frame) where
@@ -195,7 +196,7 @@ module _ (fields : FieldsAreExact) where
     form = is.form;
     texts = is.texts;
     knots = is.knots;
-    begins = subst (λ (z : List (List ℕ)). Begins all (decimal (wrap_code wrap) ∷ z) rest) (sym (append_assoc texts (flat_map spell_frame is.new) (spell_leaf c))) (Begins-then all (decimal (wrap_code wrap) ∷ []) ts (texts ++ (flat_map spell_frame is.new ++ spell_leaf c)) rest b1 (Begins-then ts texts mid (flat_map spell_frame is.new ++ spell_leaf c) rest b2 is.begins));
+    begins = subst (λ (z : List (List ℕ)). Begins all (decimal (wrap_code wrap) ∷ z) rest) (sym (append_assoc texts (flat_map spell_frame is.new) (spell_leaf c))) (fields.joined all (decimal (wrap_code wrap) ∷ []) ts (texts ++ (flat_map spell_frame is.new ++ spell_leaf c)) rest b1 (fields.joined ts texts mid (flat_map spell_frame is.new ++ spell_leaf c) rest b2 is.begins));
   }
 
   abbrev stopped : {A : Type 0} → Refusal → Result A Refusal
@@ -254,8 +255,8 @@ module _ (fields : FieldsAreExact) where
   bezier_again : (d : Dimension) (c : Chain) (rational : Bool) (degree : ℕ) (ts rest : List Token) → c.form ≡ Bezier rational degree → IsSmall degree → AreDecimals ((degree + 1) * per_pole d rational) c.texts → AreKnots 0 c.knots
       → Begins ts (flag_text rational ∷ decimal degree ∷ (c.texts ++ spell_knots c.knots)) rest → bezier_at d c.frames ts ≡ Ok (c, rest)
   bezier_again d c rational degree ts rest form small texts knots b =
-      let s1 = Begins-split ts (flag_text rational ∷ []) (decimal degree ∷ (c.texts ++ spell_knots c.knots)) rest b in
-      let s2 = Begins-split s1.0 (decimal degree ∷ []) (c.texts ++ spell_knots c.knots) rest s1.2 in
+      let s1 = fields.split ts (flag_text rational ∷ []) (decimal degree ∷ (c.texts ++ spell_knots c.knots)) rest b in
+      let s2 = fields.split s1.0 (decimal degree ∷ []) (c.texts ++ spell_knots c.knots) rest s1.2 in
       rw (fields.flag.again ts s1.0 rational s1.1 tt, fields.number.again s1.0 s2.0 degree s2.1 small, ← form) (leaf_again d c ((degree + 1) * per_pole d rational) 0 s2.0 rest s2.2 texts knots)
 
   spline_again : (d : Dimension) (c : Chain) (rational flag : Bool) (degree poles count : ℕ) (ts rest : List Token) → c.form ≡ BSpline rational flag degree poles → IsSmall degree → IsSmall poles → IsSmall count
@@ -263,11 +264,11 @@ module _ (fields : FieldsAreExact) where
       → Begins ts (flag_text rational ∷ flag_text flag ∷ decimal degree ∷ decimal poles ∷ decimal count ∷ (c.texts ++ spell_knots c.knots)) rest → spline_at d c.frames ts ≡ Ok (c, rest)
   spline_again d c rational flag degree poles count ts rest form small1 small2 small3 texts knots b =
       let end : List (List ℕ) = c.texts ++ spell_knots c.knots in
-      let s1 = Begins-split ts (flag_text rational ∷ []) (flag_text flag ∷ decimal degree ∷ decimal poles ∷ decimal count ∷ (c.texts ++ spell_knots c.knots)) rest b in
-      let s2 = Begins-split s1.0 (flag_text flag ∷ []) (decimal degree ∷ decimal poles ∷ decimal count ∷ (c.texts ++ spell_knots c.knots)) rest s1.2 in
-      let s3 = Begins-split s2.0 (decimal degree ∷ []) (decimal poles ∷ decimal count ∷ (c.texts ++ spell_knots c.knots)) rest s2.2 in
-      let s4 = Begins-split s3.0 (decimal poles ∷ []) (decimal count ∷ (c.texts ++ spell_knots c.knots)) rest s3.2 in
-      let s5 = Begins-split s4.0 (decimal count ∷ []) (c.texts ++ spell_knots c.knots) rest s4.2 in
+      let s1 = fields.split ts (flag_text rational ∷ []) (flag_text flag ∷ decimal degree ∷ decimal poles ∷ decimal count ∷ (c.texts ++ spell_knots c.knots)) rest b in
+      let s2 = fields.split s1.0 (flag_text flag ∷ []) (decimal degree ∷ decimal poles ∷ decimal count ∷ (c.texts ++ spell_knots c.knots)) rest s1.2 in
+      let s3 = fields.split s2.0 (decimal degree ∷ []) (decimal poles ∷ decimal count ∷ (c.texts ++ spell_knots c.knots)) rest s2.2 in
+      let s4 = fields.split s3.0 (decimal poles ∷ []) (decimal count ∷ (c.texts ++ spell_knots c.knots)) rest s3.2 in
+      let s5 = fields.split s4.0 (decimal count ∷ []) (c.texts ++ spell_knots c.knots) rest s4.2 in
       rw (fields.flag.again ts s1.0 rational s1.1 tt, fields.flag.again s1.0 s2.0 flag s2.1 tt, fields.number.again s2.0 s3.0 degree s3.1 small1, fields.number.again s3.0 s4.0 poles s4.1 small2, fields.number.again s4.0 s5.0 count s5.1 small3, ← form)
       (leaf_again d c (poles * per_pole d rational) count s5.0 rest s5.2 texts knots)
 
@@ -290,26 +291,26 @@ module _ (fields : FieldsAreExact) where
     leaf_again_at : (f : Form) → c.form ≡ f → fs ≡ c.frames → IsForm f (length c.knots.texts) → AreDecimals (form_size d f) c.texts → AreKnots (length c.knots.texts) c.knots
         → Begins ts (spell_form f (length c.knots.texts) ++ (c.texts ++ spell_knots c.knots)) rest → chain_at d (suc n) fs ts ≡ Ok (c, rest)
     leaf_again_at (Plain code) form frames is texts knots b =
-        let s = Begins-split ts (decimal code ∷ []) (c.texts ++ spell_knots c.knots) rest b in
+        let s = fields.split ts (decimal code ∷ []) (c.texts ++ spell_knots c.knots) rest b in
         let leaf : leaf_at d fs (Plain code) (plain_size d code) 0 s.0 ≡ Ok (c, rest) = rw (frames, ← form) (leaf_again d c (plain_size d code) 0 s.0 rest s.2 texts (subst (λ (m : ℕ). AreKnots m c.knots) is.2 knots)) in
         opened code s.0 s.1 (omega (arith, is.1)) (plain_code code is.0 is.1)
         (rw (plain_not code 6 is.1 (omega arith), plain_not code 7 is.1 (omega arith), plain_not code 8 is.1 (omega arith), plain_not code 9 is.1 (omega arith)) leaf)
     leaf_again_at (Bezier rational degree) form frames is texts knots b =
-        let s = Begins-split ts (decimal 6 ∷ []) (flag_text rational ∷ decimal degree ∷ (c.texts ++ spell_knots c.knots)) rest b in
+        let s = fields.split ts (decimal 6 ∷ []) (flag_text rational ∷ decimal degree ∷ (c.texts ++ spell_knots c.knots)) rest b in
         opened 6 s.0 s.1 (omega arith) refl
         (rw frames (bezier_again d c rational degree s.0 rest form is.0 texts (subst (λ (m : ℕ). AreKnots m c.knots) is.1 knots) s.2))
     leaf_again_at (BSpline rational flag degree poles) form frames is texts knots b =
-        let s = Begins-split ts (decimal 7 ∷ []) (flag_text rational ∷ flag_text flag ∷ decimal degree ∷ decimal poles ∷ decimal (length c.knots.texts) ∷ (c.texts ++ spell_knots c.knots)) rest b in
+        let s = fields.split ts (decimal 7 ∷ []) (flag_text rational ∷ flag_text flag ∷ decimal degree ∷ decimal poles ∷ decimal (length c.knots.texts) ∷ (c.texts ++ spell_knots c.knots)) rest b in
         opened 7 s.0 s.1 (omega arith) refl
         (rw frames (spline_again d c rational flag degree poles (length c.knots.texts) s.0 rest form is.0 is.1 is.2 texts knots s.2))
 
     frame_again_at : (wrap : Wrap) (texts : List (List ℕ)) (mid : List Token) → AreDecimals (wrap_size d wrap) texts → Begins ts (decimal (wrap_code wrap) ∷ texts) mid
         → chain_at d n (fs ++ record { wrap = wrap; texts = texts } ∷ []) mid ≡ Ok (c, rest) → chain_at d (suc n) fs ts ≡ Ok (c, rest)
     frame_again_at Trimmed texts mid are b inner =
-        let s = Begins-split ts (decimal 8 ∷ []) texts mid b in
+        let s = fields.split ts (decimal 8 ∷ []) texts mid b in
         opened 8 s.0 s.1 (omega arith) refl (rw ((fields.decimals 2).again s.0 mid texts s.2 are) inner)
     frame_again_at Offset texts mid are b inner =
-        let s = Begins-split ts (decimal 9 ∷ []) texts mid b in
+        let s = fields.split ts (decimal 9 ∷ []) texts mid b in
         opened 9 s.0 s.1 (omega arith) refl (rw ((fields.decimals (wrap_size d Offset)).again s.0 mid texts s.2 are) inner)
 
   chain_again : (d : Dimension) (room : ℕ) (new fs : List Frame) (c : Chain) (ts rest : List Token) → c.frames ≡ fs ++ new → length new < room → AllByRecursion (IsFrame d) new
@@ -321,7 +322,7 @@ module _ (fields : FieldsAreExact) where
   chain_again d (suc n) (f ∷ new) fs c ts rest frames nest each form texts knots b =
       let whole : Begins ts ((decimal (wrap_code f.wrap) ∷ f.texts) ++ (flat_map spell_frame new ++ spell_leaf c)) rest =
       subst (λ (z : List (List ℕ)). Begins ts (decimal (wrap_code f.wrap) ∷ z) rest) (append_assoc f.texts (flat_map spell_frame new) (spell_leaf c)) b in
-      let s = Begins-split ts (decimal (wrap_code f.wrap) ∷ f.texts) (flat_map spell_frame new ++ spell_leaf c) rest whole in
+      let s = fields.split ts (decimal (wrap_code f.wrap) ∷ f.texts) (flat_map spell_frame new ++ spell_leaf c) rest whole in
       frame_again_at d n fs c ts rest f.wrap f.texts s.0 each.0 s.1
       (chain_again d n new (fs ++ f ∷ []) c s.0 rest (frames ∙ sym (append_assoc fs (f ∷ []) new)) (omega (arith, nest)) each.1 form texts knots s.2)
 

@@ -4,9 +4,10 @@ use Rattle.std.specs.List.{AllByRecursion, flat_map}
 use Rattle.std.specs.Fmt.{decimal}
 use Rattle.entry_readers.specs.Begins.{AreDecimals, AreKnots, Begins, IsDecimal, IsExact, spell_knots, zipped}
 use Rattle.entry_readers.specs.FieldForms.{FieldsAreDecimals}
-use Rattle.entry_readers.specs.Reading.{Knots, Read, ◌>>=◌}
+use Rattle.lists.specs.Results.{◌>>=◌}
+use Rattle.entry_readers.specs.Reading.{Knots, Read}
 use Rattle.entry_readers.specs.Spelled.{AreShort}
-use Rattle.entry_readers.proofs.Binds.{bind_ok, ok_is}
+use Rattle.lists.proofs.Results.{bind_ok, ok_is}
 use Rattle.brep_tokens.specs.declared.text.Token.{Token}
 use Rattle.curve_tables.specs.Chains.{Chain, chain_at}
 use Rattle.curve_tables.specs.Curves.{curve3_of, framed3, leaf3, wrapped3}

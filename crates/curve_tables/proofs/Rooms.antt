@@ -1,6 +1,6 @@
 -- A code that may come makes room for one less.
 use Rattle.std.proofs.Common.{◌≡◌, ℕ, zero, suc, ◌-◌, ◌<◌, List, refl, arith}
-use Rattle.entry_readers.specs.Reading.{◌>>=◌}
+use Rattle.lists.specs.Results.{◌>>=◌}
 use Rattle.brep_tokens.specs.declared.text.Token.{Token}
 use Rattle.curve_tables.specs.Chains.{chain_at, code_at, coded_at}
 use Rattle.curve_tables.specs.declared.parts.Dimension.{Dimension}

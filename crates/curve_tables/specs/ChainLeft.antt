@@ -1,6 +1,7 @@
 -- What the reader of a curve in its frames has still to read.
 use Rattle.std.specs.Prelude.{◌≡◌, ◌<◌, ℕ, ◌+◌, ◌*◌, List, [], ◌∷◌, ◌++◌, Result, Ok, Err, Option, Some, None}
-use Rattle.entry_readers.specs.Reading.{Knots, Read, fault, flag_at, knots_at, number_at, ◌>>=◌}
+use Rattle.lists.specs.Results.{◌>>=◌}
+use Rattle.entry_readers.specs.Reading.{Knots, Read, fault, flag_at, knots_at, number_at}
 use Rattle.entry_readers.specs.Left.{decimals_left, knots_left}
 use Rattle.entry_readers.specs.Takes.{GoesOn, IsOpen, Stops}
 use Rattle.brep_tokens.specs.declared.fault.ReadFault.{ReadFault}

@@ -1,6 +1,7 @@
 -- Reading a curve in either dimension: the trimmed and offset curves around it, then the curve itself.
 use Rattle.std.specs.Prelude.{ℕ, zero, suc, ◌+◌, ◌*◌, ◌==◌, ◌&&◌, nat_le, Bool, if◌then◌else◌, List, [], ◌∷◌, ◌++◌, Ok, Err}
-use Rattle.entry_readers.specs.Reading.{Knots, Read, at_token, decimals_at, fault, flag_at, knots_at, more, number_at, ◌>>=◌}
+use Rattle.lists.specs.Results.{◌>>=◌}
+use Rattle.entry_readers.specs.Reading.{Knots, Read, at_token, decimals_at, fault, flag_at, knots_at, more, number_at}
 use Rattle.brep_tokens.specs.declared.text.Token.{Token}
 use Rattle.brep_tokens.specs.declared.fault.ReadCode.TheVariants as codes
 use Rattle.curve_tables.specs.Counts.{per_pole, plain_size, wrap_size}

@@ -1,6 +1,7 @@
 -- Reading a curve.
 use Rattle.std.specs.Prelude.{ℕ, ◌-◌, List, [], ◌∷◌, Ok}
-use Rattle.entry_readers.specs.Reading.{Knots, Read, ◌>>=◌}
+use Rattle.lists.specs.Results.{◌>>=◌}
+use Rattle.entry_readers.specs.Reading.{Knots, Read}
 use Rattle.brep_tokens.specs.declared.text.Token.{Token}
 use Rattle.curve_tables.specs.Chains.{Chain, chain_at}
 use Rattle.curve_tables.specs.declared.parts.Form.{Form}

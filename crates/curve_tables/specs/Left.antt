@@ -1,6 +1,7 @@
 -- What the readers of curves have still to read.
 use Rattle.std.specs.Prelude.{◌≡◌, List, IsSome, Option, Some, None, Ok}
-use Rattle.entry_readers.specs.Reading.{Read, ◌>>=◌}
+use Rattle.lists.specs.Results.{◌>>=◌}
+use Rattle.entry_readers.specs.Reading.{Read}
 use Rattle.brep_tokens.specs.declared.text.Token.{Token}
 use Rattle.curve_tables.specs.Curves.{curve2_of, curve3_of}
 use Rattle.curve_tables.specs.ChainLeft.{Waits, chain_left}

@@ -8,12 +8,14 @@ use Rattle.std.proofs.lemmas.Bool.{le-leb}
 use Rattle.std.proofs.lemmas.Slice.Eq.{bytes_eq-Decides}
 use Rattle.brep_tokens.specs.Forms.{flag_of, flag_text, is_decimal, number_of}
 use Rattle.brep_tokens.specs.Laws.{FormsAreExact}
-use Rattle.entry_readers.specs.Reading.{fault, ◌>>=◌, at_token, refused, spelled, word_at, decimal_at, number_at, flag_at, in_range, ranged_at, decimals_from, numbers_from, Knots, with_knot, knots_from}
+use Rattle.lists.specs.Results.{◌>>=◌}
+use Rattle.entry_readers.specs.Reading.{fault, at_token, refused, spelled, word_at, decimal_at, number_at, flag_at, in_range, ranged_at, decimals_from, numbers_from, Knots, with_knot, knots_from}
 use Rattle.entry_readers.specs.Begins.{Begins, IsDecimal, AreDecimals, IsSmall, IsRanged, AreRanged, zipped, spell_numbers, spell_knots, AreKnots, FieldsAreExact}
 use Rattle.brep_tokens.specs.declared.text.Token.{Token}
 use Rattle.brep_tokens.specs.declared.fault.ReadCode.{ReadCode}
 use Rattle.brep_tokens.specs.declared.fault.ReadCode.TheVariants as codes
-use Rattle.entry_readers.proofs.Binds.{bind_ok, guard_ok, ok_is, Begins-then}
+use Rattle.lists.proofs.Results.{bind_ok, guard_ok, ok_is}
+use Rattle.entry_readers.proofs.Joins.{Begins-split, Begins-then}
 
 word_takes : (word : List ℕ) (ts rest : List Token) (x : Unit {0}) → word_at word ts ≡ Ok (x, rest) → Begins ts (word ∷ []) rest
 word_takes word [] rest x e = absurd cc
@@ -153,6 +155,8 @@ module _ (forms : FormsAreExact) where
 
   pub fields_are_exact : FieldsAreExact
   fields_are_exact = record {
+    joined = Begins-then;
+    split = Begins-split;
     word = λ text. record { takes = λ ts rest x e. (word_takes text ts rest x e, tt); again = λ ts rest x b _. word_again text ts rest b };
     texts = record { takes = texts_takes; again = texts_again };
     number = record { takes = number_takes; again = number_again };

@@ -1,4 +1,4 @@
-pub mod Binds
+pub mod Joins
 pub mod FieldLaws
 pub mod Spelling
 pub mod Steps

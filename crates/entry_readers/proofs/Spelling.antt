@@ -1,26 +1,12 @@
--- Steps of iterators over lists.
-use Rattle.std.proofs.Common.{◌≡◌, ℕ, ◌+◌, ◌<◌, ◌≤◌, List, [], ◌∷◌, length, map, drop, Some, refl, ap, ◌∙◌, arith}
+-- The next number, and the next text with its number.
+use Rattle.std.proofs.Common.{◌≡◌, ℕ, ◌+◌, ◌<◌, ◌≤◌, List, [], ◌∷◌, length, map, drop, Some, refl, ap, arith}
 use Rattle.std.specs.List.{slice_get}
-use Rattle.std.specs.Iterator.{MakesProgress, item_count}
 use Rattle.std.specs.Fmt.{decimal}
 use Rattle.std.proofs.lemmas.List.{drop_more}
-use Rattle.std.proofs.lemmas.Option.{slice_get_within, get_or_from_slice_get}
+use Rattle.std.proofs.lemmas.Option.{slice_get_within}
+use Rattle.lists.proofs.Iterators.{next_item}
 use Rattle.entry_readers.specs.Begins.{zipped}
 use Rattle.entry_readers.specs.Spelled.{AreShort, count_then}
-
-pub progress : {S A : Type 0} (can : S → Type 0) (rest : S → List A) (s : S) (x : A) (t : S) → rest s ≡ x ∷ rest t → can t → MakesProgress can (item_count rest) s (Some x) t
-progress can rest s x t e c =
-    let lt : length (rest t) < length (rest s) = omega (arith, ap length e) in
-    record { on = λ _. (c, tt, lt); keeps = c; rests = λ _. tt }
-
-pub next_item : {A : Type 0} (xs : List A) (i : ℕ) (x : A) → slice_get xs i ≡ Some x → drop i xs ≡ x ∷ drop (i + 1) xs
-next_item xs i x e = drop_more xs i x (slice_get_within xs i x e) ∙ ap (λ z. z ∷ drop (i + 1) xs) (get_or_from_slice_get xs i x x e)
-
-pub short_first : (xs : List (List ℕ)) (i : ℕ) (x : List ℕ) → slice_get xs i ≡ Some x → AreShort (drop i xs) → length x ≤ 128
-short_first xs i x e short = (rw (next_item xs i x e) at short).0
-
-pub short_rest : (xs : List (List ℕ)) (i : ℕ) (x : List ℕ) → slice_get xs i ≡ Some x → AreShort (drop i xs) → AreShort (drop (i + 1) xs)
-short_rest xs i x e short = (rw (next_item xs i x e) at short).1
 
 pub next_number : (ns : List ℕ) (i n : ℕ) → slice_get ns i ≡ Some n → map decimal (drop i ns) ≡ decimal n ∷ map decimal (drop (i + 1) ns)
 next_number ns i n e = ap (λ ms. map decimal ms) (next_item ns i n e)

@@ -1,7 +1,8 @@
 -- A section whose next entry is whole, or not begun.
 use Rattle.std.proofs.Common.{◌≡◌, ℕ, zero, suc, ◌-◌, ◌<◌, ◌==◌, false, List, [], ◌∷◌, ◌++◌, Ok, Err, refl, arith}
 use Rattle.std.proofs.lemmas.Bool.Decides.{nat_tests}
-use Rattle.entry_readers.specs.Reading.{Read, more, ◌>>=◌}
+use Rattle.lists.specs.Results.{◌>>=◌}
+use Rattle.entry_readers.specs.Reading.{Read, more}
 use Rattle.brep_tokens.specs.declared.text.Token.{Token}
 use Rattle.entry_readers.specs.Entries.{entries_from, entries_left}
 

@@ -1,5 +1,5 @@
 -- Tokens that begin with given texts, and readers that read exactly what is spelled.
-use Rattle.std.specs.Prelude.{ℕ, ◌≡◌, ◌<◌, ◌≤◌, ◌^◌, true, List, [], ◌∷◌, length, map, Ok}
+use Rattle.std.specs.Prelude.{ℕ, ◌≡◌, ◌<◌, ◌≤◌, ◌^◌, true, List, [], ◌∷◌, ◌++◌, length, map, Ok}
 use Rattle.std.specs.List.{AllByRecursion}
 use Rattle.std.specs.Fmt.{decimal}
 use Rattle.brep_tokens.specs.Forms.{is_decimal, flag_text}
@@ -51,8 +51,10 @@ pub record AreKnots (n : ℕ) (k : Knots) : Type 0 where
   pub texts : AreDecimals n k.texts
   pub counts : (length k.counts ≡ n) × AllByRecursion IsSmall k.counts
 
--- Each field, and repeated ones.
+-- Each field, and repeated ones; and tokens begin with joined texts exactly where they begin with the one, and what is left with the other.
 pub record FieldsAreExact : Type 0 where
+  pub joined : (ts : List Token) (xs : List (List ℕ)) (mid : List Token) (ys : List (List ℕ)) (rest : List Token) → Begins ts xs mid → Begins mid ys rest → Begins ts (xs ++ ys) rest
+  pub split : (ts : List Token) (xs ys : List (List ℕ)) (rest : List Token) → Begins ts (xs ++ ys) rest → (mid : List Token) × Begins ts xs mid × Begins mid ys rest
   pub word : (text : List ℕ) → IsExact (word_at text) (λ _. text ∷ []) (λ _. Unit {0})
   pub texts : IsExact decimal_at (λ x. x ∷ []) IsDecimal
   pub number : IsExact number_at (λ n. decimal n ∷ []) IsSmall

@@ -1,7 +1,8 @@
 -- Reading so many entries.
 use Rattle.std.specs.Prelude.{◌-◌, ℕ, zero, suc, ◌==◌, if◌then◌else◌, List, [], ◌∷◌, ◌++◌, Ok}
 use Rattle.brep_tokens.specs.declared.text.Token.{Token}
-use Rattle.entry_readers.specs.Reading.{Read, ◌>>=◌}
+use Rattle.lists.specs.Results.{◌>>=◌}
+use Rattle.entry_readers.specs.Reading.{Read}
 
 module _ {A : Type 0} (read : List Token → Read A) where
   -- so many entries, after these

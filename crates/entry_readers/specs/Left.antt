@@ -1,7 +1,8 @@
 -- What the readers of repeated fields have still to read.
 use Rattle.std.specs.Prelude.{ℕ, zero, suc, if◌then◌else◌, List, [], ◌∷◌, ◌++◌}
 use Rattle.brep_tokens.specs.declared.text.Token.{Token}
-use Rattle.entry_readers.specs.Reading.{Read, Knots, decimals_from, knots_from, number_at, numbers_from, ◌>>=◌}
+use Rattle.lists.specs.Results.{◌>>=◌}
+use Rattle.entry_readers.specs.Reading.{Read, Knots, decimals_from, knots_from, number_at, numbers_from}
 use Rattle.entry_readers.specs.declared.decimals_due.DecimalsDue.{DecimalsDue}
 use Rattle.entry_readers.specs.declared.knots_due.KnotsDue.{KnotsDue}
 use Rattle.entry_readers.specs.declared.numbers_due.NumbersDue.{NumbersDue}

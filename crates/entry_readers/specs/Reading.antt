@@ -1,6 +1,7 @@
 -- Reading the tokens at the front of a list: a value and the tokens after it, or why there is none.
 use Rattle.std.specs.Prelude.{ℕ, zero, suc, ◌&&◌, nat_le, nat_eq, Bool, if◌then◌else◌, List, [], ◌∷◌, ◌++◌, Option, Some, None, Result, Ok, Err}
 use Rattle.std.specs.Cmp.Lexicographic.{pointwise}
+use Rattle.lists.specs.Results.{◌>>=◌}
 use Rattle.brep_tokens.specs.Forms.{is_decimal, number_of, flag_of}
 use Rattle.brep_tokens.specs.declared.text.Token.{Token}
 use Rattle.brep_tokens.specs.declared.fault.ReadFault.{ReadFault}
@@ -15,11 +16,6 @@ pub data Refusal : Type 0 where
 -- what is read at the front, and the tokens after it
 abbrev pub Read : Type 0 → Type 0
 Read A = Result (A × List Token) Refusal
-
-infixl 10 ◌>>=◌
-abbrev pub ◌>>=◌ : {A B : Type 0} → Result A Refusal → (A → Result B Refusal) → Result B Refusal
-(Ok x) >>= f = f x
-(Err e) >>= f = Err e
 
 abbrev pub at_token : ReadCode → ℕ → ℕ → Token → ReadFault
 at_token code value limit t = record { code = code; offset = t.offset; value = value; limit = limit }

@@ -17,9 +17,12 @@ texts_left s = drop s.at s.texts.now
 abbrev pub numbers_left : NumbersSpell → List (List ℕ)
 numbers_left s = map decimal (drop s.at s.numbers.now)
 
--- each has at most 128 bytes, so that it is a token
+-- at most 128 bytes, so that it is a token
+abbrev pub IsShort : List ℕ → Type 0
+IsShort text = length text ≤ 128
+
 abbrev pub AreShort : List (List ℕ) → Type 0
-AreShort texts = AllByRecursion (λ x. length x ≤ 128) texts
+AreShort texts = AllByRecursion IsShort texts
 
 -- the number in front, where its text was given
 abbrev pub count_then : List (List ℕ) → List ℕ → List (List ℕ)

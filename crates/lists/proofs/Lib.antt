@@ -6,3 +6,5 @@ pub mod Tests
 pub mod Distinct
 pub mod Sameness
 pub mod Once
+pub mod Results
+pub mod Iterators

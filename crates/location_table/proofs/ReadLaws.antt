@@ -13,7 +13,7 @@ use Rattle.brep_tokens.specs.declared.fault.ReadCode.{ReadCode}
 use Rattle.brep_tokens.specs.declared.fault.ReadCode.TheVariants as codes
 use Rattle.entry_readers.specs.Reading.{fault, at_token, spelled, decimals_at, number_at, ranged_at}
 use Rattle.entry_readers.specs.Begins.{Begins, AreDecimals, IsDecimal, FieldsAreExact}
-use Rattle.entry_readers.proofs.Binds.{bind_ok, guard_ok, ok_is}
+use Rattle.lists.proofs.Results.{bind_ok, guard_ok, ok_is}
 use Rattle.location_words.specs.declared.pair.Pair.{Pair}
 use Rattle.location_words.proofs.WordLaws.{by_test}
 use Rattle.location_table.specs.declared.entry.Factor.{Factor}

@@ -2,9 +2,10 @@
 use Rattle.std.proofs.Common.{◌≡◌, ℕ, zero, suc, ◌-◌, ◌<◌, ◌==◌, false, List, [], ◌∷◌, ◌++◌, length, Ok, Err, refl, sym, ap, ◌∙◌, append_assoc, append-nil, arith}
 use Rattle.std.proofs.lemmas.Bool.Decides.{nat_tests}
 use Rattle.brep_tokens.specs.declared.text.Token.{Token}
-use Rattle.entry_readers.specs.Reading.{Read, more, ◌>>=◌}
+use Rattle.lists.specs.Results.{◌>>=◌}
+use Rattle.entry_readers.specs.Reading.{Read, more}
 use Rattle.entry_readers.specs.Begins.{Begins}
-use Rattle.entry_readers.proofs.Binds.{bind_ok, ok_is, Begins-then, Begins-split}
+use Rattle.lists.proofs.Results.{bind_ok, ok_is}
 use Rattle.location_table.specs.declared.entry.LocationEntry.{LocationEntry}
 use Rattle.location_table.specs.Locations.{location_at, spell_location, AreSoundAfter}
 use Rattle.location_table.specs.Sections.{begun_from, locations_from, spell_locations, SectionsAreExact}
@@ -55,7 +56,7 @@ module _ (exact : LocationsAreExact) where
       record {
         new = b.0.0 ∷ others.new;
         joined = others.joined ∙ append_assoc before (b.0.0 ∷ []) others.new;
-        begins = Begins-then ts (spell_location b.0.0) b.0.1 (spell_locations others.new) rest one.0 others.begins;
+        begins = fields.joined ts (spell_location b.0.0) b.0.1 (spell_locations others.new) rest one.0 others.begins;
         many = ap suc others.many;
         sound = (one.1, others.sound);
       }
@@ -63,7 +64,7 @@ module _ (exact : LocationsAreExact) where
   again : (before new : List LocationEntry) (ts rest : List Token) → Begins ts (spell_locations new) rest → AreSoundAfter before new → locations_from before (length new) ts ≡ Ok (before ++ new, rest)
   again before [] ts rest b sound = rw (b, append-nil before) refl
   again before (x ∷ new) ts rest b sound =
-      let s = Begins-split ts (spell_location x) (spell_locations new) rest b in
+      let s = fields.split ts (spell_location x) (spell_locations new) rest b in
       let one : location_at before ts ≡ Ok (x, s.0) = (exact.location before).again ts s.0 x s.1 sound.0 in
       rw (one, again (before ++ x ∷ []) new s.0 rest s.2 sound.1, append_assoc before (x ∷ []) new) refl
 

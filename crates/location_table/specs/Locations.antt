@@ -7,7 +7,8 @@ use Rattle.brep_tokens.specs.declared.text.Token.{Token}
 use Rattle.brep_tokens.specs.declared.fault.ReadFault.{ReadFault}
 use Rattle.brep_tokens.specs.declared.fault.ReadCode.TheVariants as codes
 use Rattle.entry_readers.specs.Begins.{AreDecimals}
-use Rattle.entry_readers.specs.Reading.{Read, more, fault, ◌>>=◌, at_token, spelled, number_at, ranged_at, decimals_at}
+use Rattle.lists.specs.Results.{◌>>=◌}
+use Rattle.entry_readers.specs.Reading.{Read, more, fault, at_token, spelled, number_at, ranged_at, decimals_at}
 use Rattle.location_words.specs.declared.pair.Pair.{Pair}
 use Rattle.location_table.specs.declared.entry.Factor.{Factor}
 use Rattle.location_table.specs.declared.entry.LocationEntry.{LocationEntry}

@@ -6,8 +6,9 @@ use Rattle.brep_tokens.specs.Forms.{flag_text}
 use Rattle.brep_tokens.specs.Laws.{FormsAreExact}
 use Rattle.brep_tokens.specs.declared.text.Token.{Token}
 use Rattle.entry_readers.specs.Begins.{Begins, FieldsAreExact, IsDecimal, IsRanged, IsSmall, spell_numbers}
-use Rattle.entry_readers.specs.Reading.{◌>>=◌, decimals_at, flag_at, number_at, numbers_at}
-use Rattle.entry_readers.proofs.Binds.{Begins-split, Begins-then, bind_ok, ok_is}
+use Rattle.lists.specs.Results.{◌>>=◌}
+use Rattle.entry_readers.specs.Reading.{decimals_at, flag_at, number_at, numbers_at}
+use Rattle.lists.proofs.Results.{bind_ok, ok_is}
 use Rattle.mesh_tables.specs.Counts.{mesh_size}
 use Rattle.mesh_tables.specs.Meshes.{corners_at, mesh_at, mesh_texts_at}
 use Rattle.mesh_tables.specs.Sound.{IsNode, IsSoundMesh}
@@ -34,9 +35,9 @@ module _ (fields : FieldsAreExact) where
       let five = (fields.numbers 1 n.0.0 (3 * k.0.0)).takes x.0.1 c.0.1 c.0.0 c.1 in
       let body = x.0.0 ++ spell_numbers c.0.0 in
       let begins : Begins ts (decimal n.0.0 ∷ decimal k.0.0 ∷ flag_text f.0.0 ∷ body) c.0.1 =
-      Begins-then ts (decimal n.0.0 ∷ []) n.0.1 (decimal k.0.0 ∷ flag_text f.0.0 ∷ body) c.0.1 one.0
-      (Begins-then n.0.1 (decimal k.0.0 ∷ []) k.0.1 (flag_text f.0.0 ∷ body) c.0.1 two.0
-      (Begins-then k.0.1 (flag_text f.0.0 ∷ []) f.0.1 body c.0.1 three (Begins-then f.0.1 x.0.0 x.0.1 (spell_numbers c.0.0) c.0.1 four.0 five.0))) in
+      fields.joined ts (decimal n.0.0 ∷ []) n.0.1 (decimal k.0.0 ∷ flag_text f.0.0 ∷ body) c.0.1 one.0
+      (fields.joined n.0.1 (decimal k.0.0 ∷ []) k.0.1 (flag_text f.0.0 ∷ body) c.0.1 two.0
+      (fields.joined k.0.1 (flag_text f.0.0 ∷ []) f.0.1 body c.0.1 three (fields.joined f.0.1 x.0.0 x.0.1 (spell_numbers c.0.0) c.0.1 four.0 five.0))) in
       subst (λ (q : Mesh × List Token). Begins ts (spell_mesh q.0) q.1 × IsSoundMesh q.0) same (
         begins,
         record {
@@ -51,10 +52,10 @@ module _ (fields : FieldsAreExact) where
   pub mesh_again : (ts rest : List Token) (m : Mesh) → Begins ts (spell_mesh m) rest → IsSoundMesh m → mesh_at ts ≡ Ok (m, rest)
   mesh_again ts rest m b sound =
       let body = m.texts ++ spell_numbers m.corners in
-      let n = Begins-split ts (decimal m.nodes ∷ []) (decimal m.triangles ∷ flag_text m.uv ∷ body) rest b in
-      let k = Begins-split n.0 (decimal m.triangles ∷ []) (flag_text m.uv ∷ body) rest n.2 in
-      let f = Begins-split k.0 (flag_text m.uv ∷ []) body rest k.2 in
-      let x = Begins-split f.0 m.texts (spell_numbers m.corners) rest f.2 in
+      let n = fields.split ts (decimal m.nodes ∷ []) (decimal m.triangles ∷ flag_text m.uv ∷ body) rest b in
+      let k = fields.split n.0 (decimal m.triangles ∷ []) (flag_text m.uv ∷ body) rest n.2 in
+      let f = fields.split k.0 (flag_text m.uv ∷ []) body rest k.2 in
+      let x = fields.split f.0 m.texts (spell_numbers m.corners) rest f.2 in
       rw (
         fields.number.again ts n.0 m.nodes n.1 sound.nodes,
         fields.number.again n.0 k.0 m.triangles k.1 sound.triangles,

@@ -6,8 +6,9 @@ use Rattle.brep_tokens.specs.Forms.{flag_text}
 use Rattle.brep_tokens.specs.Laws.{FormsAreExact}
 use Rattle.brep_tokens.specs.declared.text.Token.{Token}
 use Rattle.entry_readers.specs.Begins.{Begins, FieldsAreExact, IsDecimal}
-use Rattle.entry_readers.specs.Reading.{◌>>=◌, decimals_at, flag_at, number_at}
-use Rattle.entry_readers.proofs.Binds.{Begins-split, Begins-then, bind_ok, ok_is}
+use Rattle.lists.specs.Results.{◌>>=◌}
+use Rattle.entry_readers.specs.Reading.{decimals_at, flag_at, number_at}
+use Rattle.lists.proofs.Results.{bind_ok, ok_is}
 use Rattle.mesh_tables.specs.Counts.{polygon_size}
 use Rattle.mesh_tables.specs.Meshes.{polygon_at, polygon_texts_at}
 use Rattle.mesh_tables.specs.Sound.{IsSoundPolygon}
@@ -26,14 +27,14 @@ module _ (fields : FieldsAreExact) where
       let flag = fields.flag.takes n.0.1 f.0.1 f.0.0 f.1 in
       let texts = (fields.decimals (polygon_size n.0.0 f.0.0)).takes f.0.1 x.0.1 x.0.0 x.1 in
       let begins : Begins ts (decimal n.0.0 ∷ flag_text f.0.0 ∷ x.0.0) x.0.1 =
-      Begins-then ts (decimal n.0.0 ∷ []) n.0.1 (flag_text f.0.0 ∷ x.0.0) x.0.1 number.0 (Begins-then n.0.1 (flag_text f.0.0 ∷ []) f.0.1 x.0.0 x.0.1 flag.0 texts.0) in
+      fields.joined ts (decimal n.0.0 ∷ []) n.0.1 (flag_text f.0.0 ∷ x.0.0) x.0.1 number.0 (fields.joined n.0.1 (flag_text f.0.0 ∷ []) f.0.1 x.0.0 x.0.1 flag.0 texts.0) in
       subst (λ (q : Polygon3 × List Token). Begins ts (spell_polygon q.0) q.1 × IsSoundPolygon q.0) same
       (begins, record { shape = texts.1.0; nodes = number.1; texts = texts.1.1 })
 
   pub polygon_again : (ts rest : List Token) (p : Polygon3) → Begins ts (spell_polygon p) rest → IsSoundPolygon p → polygon_at ts ≡ Ok (p, rest)
   polygon_again ts rest p b sound =
-      let n = Begins-split ts (decimal p.nodes ∷ []) (flag_text p.params ∷ p.texts) rest b in
-      let f = Begins-split n.0 (flag_text p.params ∷ []) p.texts rest n.2 in
+      let n = fields.split ts (decimal p.nodes ∷ []) (flag_text p.params ∷ p.texts) rest b in
+      let f = fields.split n.0 (flag_text p.params ∷ []) p.texts rest n.2 in
       rw (
         fields.number.again ts n.0 p.nodes n.1 sound.nodes,
         fields.flag.again n.0 f.0 p.params f.1 tt,

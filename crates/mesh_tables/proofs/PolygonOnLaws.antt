@@ -6,8 +6,9 @@ use Rattle.brep_tokens.specs.Forms.{flag_text}
 use Rattle.brep_tokens.specs.Laws.{FormsAreExact}
 use Rattle.brep_tokens.specs.declared.text.Token.{Token}
 use Rattle.entry_readers.specs.Begins.{AreRanged, Begins, FieldsAreExact, IsDecimal, IsRanged, IsSmall, spell_numbers}
-use Rattle.entry_readers.specs.Reading.{Refusal, ◌>>=◌, decimal_at, decimals_at, decimals_from, flag_at, number_at, numbers_at, word_at}
-use Rattle.entry_readers.proofs.Binds.{Begins-split, Begins-then, bind_ok, ok_is}
+use Rattle.lists.specs.Results.{◌>>=◌}
+use Rattle.entry_readers.specs.Reading.{Refusal, decimal_at, decimals_at, decimals_from, flag_at, number_at, numbers_at, word_at}
+use Rattle.lists.proofs.Results.{bind_ok, ok_is}
 use Rattle.mesh_tables.specs.Counts.{param_count, polygon_on_size}
 use Rattle.mesh_tables.specs.Laws.{IsDecimalOrP}
 use Rattle.mesh_tables.specs.Meshes.{greatest, params_at, polygon_on_at, word_p_at}
@@ -54,7 +55,7 @@ whole count nodes ts mid last rest p one small two ranged is =
     let n : length p.nodes ≡ count = rw is.same_nodes ranged.0 in
     let marked = codes "p" ∷ is.deflection ∷ flag_text p.params ∷ is.others in
     let begins : Begins ts (decimal count ∷ (spell_numbers nodes ++ marked)) rest =
-    Begins-then ts (decimal count ∷ []) mid (spell_numbers nodes ++ marked) rest one (Begins-then mid (spell_numbers nodes) last marked rest two is.begins) in
+    fields.joined ts (decimal count ∷ []) mid (spell_numbers nodes ++ marked) rest one (fields.joined mid (spell_numbers nodes) last marked rest two is.begins) in
     let spelled : spell_polygon_on p ≡ decimal count ∷ (spell_numbers nodes ++ marked) = rw (n, is.same_nodes, is.same_texts) refl in
     let nodes_small = all_map (IsRanged 0 greatest) IsSmall (λ m in_range. in_range.small) nodes ranged.1 in (
       subst (λ (texts : List (List ℕ)). Begins ts texts rest) (sym spelled) begins,
@@ -82,8 +83,8 @@ module _ (fields : FieldsAreExact) where
       let three = (fields.flag.takes d.0.1 f.0.1 f.0.0 f.1).0 in
       let four = (fields.decimals (param_count count f.0.0)).takes f.0.1 y.0.1 y.0.0 y.1 in
       let begins : Begins ts (codes "p" ∷ d.0.0 ∷ flag_text f.0.0 ∷ y.0.0) y.0.1 =
-      Begins-then ts (codes "p" ∷ []) w.0.1 (d.0.0 ∷ flag_text f.0.0 ∷ y.0.0) y.0.1 one
-      (Begins-then w.0.1 (d.0.0 ∷ []) d.0.1 (flag_text f.0.0 ∷ y.0.0) y.0.1 two.0 (Begins-then d.0.1 (flag_text f.0.0 ∷ []) f.0.1 y.0.0 y.0.1 three four.0)) in
+      fields.joined ts (codes "p" ∷ []) w.0.1 (d.0.0 ∷ flag_text f.0.0 ∷ y.0.0) y.0.1 one
+      (fields.joined w.0.1 (d.0.0 ∷ []) d.0.1 (flag_text f.0.0 ∷ y.0.0) y.0.1 two.0 (fields.joined d.0.1 (flag_text f.0.0 ∷ []) f.0.1 y.0.0 y.0.1 three four.0)) in
       let whole : IsMarked count nodes ts y.0.1 (record { nodes = nodes; params = f.0.0; texts = d.0.0 ∷ y.0.0 }) =
       record { deflection = d.0.0; others = y.0.0; same_nodes = refl; same_texts = refl; begins = begins; shape = four.1.0; first = two.1; each = four.1.1 } in
       subst (λ (q : PolygonOnMesh × List Token). IsMarked count nodes ts q.1 q.0) same
@@ -101,9 +102,9 @@ module _ (fields : FieldsAreExact) where
       → word_p_at (length nodes) nodes ts ≡ Ok (record { nodes = nodes; params = params; texts = texts }, rest)
   marked_again nodes params [] ts rest b shape all = absurd (omega (arith, shape))
   marked_again nodes params (d ∷ others) ts rest b shape all =
-      let w = Begins-split ts (codes "p" ∷ []) (d ∷ flag_text params ∷ others) rest b in
-      let x = Begins-split w.0 (d ∷ []) (flag_text params ∷ others) rest w.2 in
-      let f = Begins-split x.0 (flag_text params ∷ []) others rest x.2 in
+      let w = fields.split ts (codes "p" ∷ []) (d ∷ flag_text params ∷ others) rest b in
+      let x = fields.split w.0 (d ∷ []) (flag_text params ∷ others) rest w.2 in
+      let f = fields.split x.0 (flag_text params ∷ []) others rest x.2 in
       let word = fields.word (codes "p") in
       let n : length others ≡ param_count (length nodes) params = omega (arith, shape) in
       rw (
@@ -116,8 +117,8 @@ module _ (fields : FieldsAreExact) where
 
   pub polygon_on_again : (ts rest : List Token) (p : PolygonOnMesh) → Begins ts (spell_polygon_on p) rest → IsSoundPolygonOn p → polygon_on_at ts ≡ Ok (p, rest)
   polygon_on_again ts rest p b sound =
-      let c = Begins-split ts (decimal (length p.nodes) ∷ []) (spell_numbers p.nodes ++ codes "p" ∷ with_flag p.params p.texts) rest b in
-      let k = Begins-split c.0 (spell_numbers p.nodes) (codes "p" ∷ with_flag p.params p.texts) rest c.2 in
+      let c = fields.split ts (decimal (length p.nodes) ∷ []) (spell_numbers p.nodes ++ codes "p" ∷ with_flag p.params p.texts) rest b in
+      let k = fields.split c.0 (spell_numbers p.nodes) (codes "p" ∷ with_flag p.params p.texts) rest c.2 in
       rw (
         fields.number.again ts c.0 (length p.nodes) c.1 sound.count,
         (fields.numbers 0 greatest (length p.nodes)).again c.0 k.0 p.nodes k.1 (refl, all_map IsSmall (IsRanged 0 greatest) small_ranged p.nodes sound.nodes),

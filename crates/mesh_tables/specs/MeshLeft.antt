@@ -3,7 +3,8 @@ use Rattle.std.specs.Prelude.{◌≡◌, ◌<◌, ℕ, List, Ok}
 use Rattle.brep_tokens.specs.declared.text.Token.{Token}
 use Rattle.entry_readers.specs.Begins.{IsSmall}
 use Rattle.entry_readers.specs.Left.{decimals_left, numbers_left}
-use Rattle.entry_readers.specs.Reading.{Read, ◌>>=◌, flag_at, number_at}
+use Rattle.lists.specs.Results.{◌>>=◌}
+use Rattle.entry_readers.specs.Reading.{Read, flag_at, number_at}
 use Rattle.mesh_tables.specs.Meshes.{corners_at, mesh_at, mesh_texts_at}
 use Rattle.mesh_tables.specs.declared.entries.Mesh.{Mesh}
 use Rattle.mesh_tables.specs.declared.mesh_reader.MeshReader.{MeshReader}

@@ -1,7 +1,8 @@
 -- Reading polygons and meshes.
 use Rattle.std.specs.Prelude.{ℕ, ◌*◌, ◌-◌, ◌^◌, Bool, List, [], ◌∷◌, Ok, codes}
 use Rattle.brep_tokens.specs.declared.text.Token.{Token}
-use Rattle.entry_readers.specs.Reading.{Read, ◌>>=◌, decimal_at, decimals_at, decimals_from, flag_at, number_at, numbers_at, word_at}
+use Rattle.lists.specs.Results.{◌>>=◌}
+use Rattle.entry_readers.specs.Reading.{Read, decimal_at, decimals_at, decimals_from, flag_at, number_at, numbers_at, word_at}
 use Rattle.mesh_tables.specs.Counts.{mesh_size, param_count, polygon_size}
 use Rattle.mesh_tables.specs.declared.entries.Mesh.{Mesh}
 use Rattle.mesh_tables.specs.declared.entries.Polygon3.{Polygon3}

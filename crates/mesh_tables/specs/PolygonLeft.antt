@@ -3,7 +3,8 @@ use Rattle.std.specs.Prelude.{◌≡◌, ◌<◌, ℕ, List, Ok}
 use Rattle.brep_tokens.specs.declared.text.Token.{Token}
 use Rattle.entry_readers.specs.Begins.{IsSmall}
 use Rattle.entry_readers.specs.Left.{decimals_left}
-use Rattle.entry_readers.specs.Reading.{Read, ◌>>=◌, flag_at}
+use Rattle.lists.specs.Results.{◌>>=◌}
+use Rattle.entry_readers.specs.Reading.{Read, flag_at}
 use Rattle.mesh_tables.specs.Meshes.{polygon_at, polygon_texts_at}
 use Rattle.mesh_tables.specs.declared.entries.Polygon3.{Polygon3}
 use Rattle.mesh_tables.specs.declared.polygon_reader.Polygon3Reader.{Polygon3Reader}

@@ -2,7 +2,8 @@
 use Rattle.std.specs.Prelude.{◌≡◌, ◌<◌, ℕ, List, [], ◌∷◌, Ok}
 use Rattle.brep_tokens.specs.declared.text.Token.{Token}
 use Rattle.entry_readers.specs.Left.{decimals_left, numbers_left}
-use Rattle.entry_readers.specs.Reading.{Read, ◌>>=◌, decimal_at}
+use Rattle.lists.specs.Results.{◌>>=◌}
+use Rattle.entry_readers.specs.Reading.{Read, decimal_at}
 use Rattle.mesh_tables.specs.Meshes.{params_at, polygon_on_at, word_p_at}
 use Rattle.mesh_tables.specs.declared.entries.PolygonOnMesh.{PolygonOnMesh}
 use Rattle.mesh_tables.specs.declared.polygon_on_reader.PolygonOnMeshReader.{PolygonOnMeshReader}

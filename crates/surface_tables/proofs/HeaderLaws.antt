@@ -6,7 +6,7 @@ use Rattle.std.specs.Fmt.{decimal}
 use Rattle.brep_tokens.specs.Forms.{flag_text}
 use Rattle.entry_readers.specs.Reading.{fault, at_token, refused, number_at, flag_at}
 use Rattle.entry_readers.specs.Begins.{Begins, IsSmall, FieldsAreExact}
-use Rattle.entry_readers.proofs.Binds.{bind_ok, guard_ok, ok_is, Begins-then, Begins-split}
+use Rattle.lists.proofs.Results.{bind_ok, guard_ok, ok_is}
 use Rattle.brep_tokens.specs.declared.text.Token.{Token}
 use Rattle.brep_tokens.specs.declared.fault.ReadCode.TheVariants as codes
 use Rattle.surface_tables.specs.Bodies.{bezier_poles, body_of}
@@ -113,9 +113,9 @@ module _ (fields : FieldsAreExact) where
       let b3 = fields.number.takes v.0.1 n.0.1 n.0.0 n.1 in
       let b4 = sized_takes (λ x. (n.0.0 + 1) * (x + 1)) n.0.1 m.0.1 m.0.0 m.1 in
       let begins : Begins ts (bezier_texts u.0.0 v.0.0 n.0.0 m.0.0) m.0.1 =
-      Begins-then ts (flag_text u.0.0 ∷ []) u.0.1 (flag_text v.0.0 ∷ decimal n.0.0 ∷ decimal m.0.0 ∷ []) m.0.1 b1
-      (Begins-then u.0.1 (flag_text v.0.0 ∷ []) v.0.1 (decimal n.0.0 ∷ decimal m.0.0 ∷ []) m.0.1 b2
-      (Begins-then v.0.1 (decimal n.0.0 ∷ []) n.0.1 (decimal m.0.0 ∷ []) m.0.1 b3.0 b4.0)) in
+      fields.joined ts (flag_text u.0.0 ∷ []) u.0.1 (flag_text v.0.0 ∷ decimal n.0.0 ∷ decimal m.0.0 ∷ []) m.0.1 b1
+      (fields.joined u.0.1 (flag_text v.0.0 ∷ []) v.0.1 (decimal n.0.0 ∷ decimal m.0.0 ∷ []) m.0.1 b2
+      (fields.joined v.0.1 (decimal n.0.0 ∷ []) n.0.1 (decimal m.0.0 ∷ []) m.0.1 b3.0 b4.0)) in
       record {
         u = u.0.0;
         v = v.0.0;
@@ -130,9 +130,9 @@ module _ (fields : FieldsAreExact) where
 
   pub bezier_again : (u v : Bool) (n m : ℕ) (ts rest : List Token) → Begins ts (bezier_texts u v n m) rest → IsSmall n → IsSmall m → IsSmall (bezier_poles n m) → bezier_at ts ≡ Ok (body_of (forms.Bezier u v n m), rest)
   bezier_again u v n m ts rest b n_small m_small poles_small =
-      let s1 = Begins-split ts (flag_text u ∷ []) (flag_text v ∷ decimal n ∷ decimal m ∷ []) rest b in
-      let s2 = Begins-split s1.0 (flag_text v ∷ []) (decimal n ∷ decimal m ∷ []) rest s1.2 in
-      let s3 = Begins-split s2.0 (decimal n ∷ []) (decimal m ∷ []) rest s2.2 in
+      let s1 = fields.split ts (flag_text u ∷ []) (flag_text v ∷ decimal n ∷ decimal m ∷ []) rest b in
+      let s2 = fields.split s1.0 (flag_text v ∷ []) (decimal n ∷ decimal m ∷ []) rest s1.2 in
+      let s3 = fields.split s2.0 (decimal n ∷ []) (decimal m ∷ []) rest s2.2 in
       rw (fields.flag.again ts s1.0 u s1.1 tt, fields.flag.again s1.0 s2.0 v s2.1 tt, fields.number.again s2.0 s3.0 n s3.1 n_small, sized_again (λ x. (n + 1) * (x + 1)) s3.0 rest m s3.2 m_small poles_small) refl
 
   -- ---- a B-spline surface
@@ -146,9 +146,9 @@ module _ (fields : FieldsAreExact) where
       record {
         all = flags_of u.0.0 v.0.0 f.0.0 g.0.0;
         mid = g.0.1;
-        begins = Begins-then ts (flag_text u.0.0 ∷ []) u.0.1 (flag_text v.0.0 ∷ flag_text f.0.0 ∷ flag_text g.0.0 ∷ []) g.0.1 (fields.flag.takes ts u.0.1 u.0.0 u.1).0
-            (Begins-then u.0.1 (flag_text v.0.0 ∷ []) v.0.1 (flag_text f.0.0 ∷ flag_text g.0.0 ∷ []) g.0.1 (fields.flag.takes u.0.1 v.0.1 v.0.0 v.1).0
-            (Begins-then v.0.1 (flag_text f.0.0 ∷ []) f.0.1 (flag_text g.0.0 ∷ []) g.0.1 (fields.flag.takes v.0.1 f.0.1 f.0.0 f.1).0 (fields.flag.takes f.0.1 g.0.1 g.0.0 g.1).0));
+        begins = fields.joined ts (flag_text u.0.0 ∷ []) u.0.1 (flag_text v.0.0 ∷ flag_text f.0.0 ∷ flag_text g.0.0 ∷ []) g.0.1 (fields.flag.takes ts u.0.1 u.0.0 u.1).0
+            (fields.joined u.0.1 (flag_text v.0.0 ∷ []) v.0.1 (flag_text f.0.0 ∷ flag_text g.0.0 ∷ []) g.0.1 (fields.flag.takes u.0.1 v.0.1 v.0.0 v.1).0
+            (fields.joined v.0.1 (flag_text f.0.0 ∷ []) f.0.1 (flag_text g.0.0 ∷ []) g.0.1 (fields.flag.takes v.0.1 f.0.1 f.0.0 f.1).0 (fields.flag.takes f.0.1 g.0.1 g.0.0 g.1).0));
         next = g.2;
       }
 
@@ -168,11 +168,11 @@ module _ (fields : FieldsAreExact) where
       let b5 = fields.number.takes q.0.1 k.0.1 k.0.0 k.1 in
       let b6 = fields.number.takes k.0.1 l.0.1 l.0.0 l.1 in
       let end : Begins p.0.1 (decimal q.0.0 ∷ decimal k.0.0 ∷ decimal l.0.0 ∷ []) l.0.1 =
-      Begins-then p.0.1 (decimal q.0.0 ∷ []) q.0.1 (decimal k.0.0 ∷ decimal l.0.0 ∷ []) l.0.1 b4.0 (Begins-then q.0.1 (decimal k.0.0 ∷ []) k.0.1 (decimal l.0.0 ∷ []) l.0.1 b5.0 b6.0) in
+      fields.joined p.0.1 (decimal q.0.0 ∷ []) q.0.1 (decimal k.0.0 ∷ decimal l.0.0 ∷ []) l.0.1 b4.0 (fields.joined q.0.1 (decimal k.0.0 ∷ []) k.0.1 (decimal l.0.0 ∷ []) l.0.1 b5.0 b6.0) in
       let begins : Begins ts (count_texts n.0.0 m.0.0 p.0.0 q.0.0 k.0.0 l.0.0) l.0.1 =
-      Begins-then ts (decimal n.0.0 ∷ []) n.0.1 (decimal m.0.0 ∷ decimal p.0.0 ∷ decimal q.0.0 ∷ decimal k.0.0 ∷ decimal l.0.0 ∷ []) l.0.1 b1.0
-      (Begins-then n.0.1 (decimal m.0.0 ∷ []) m.0.1 (decimal p.0.0 ∷ decimal q.0.0 ∷ decimal k.0.0 ∷ decimal l.0.0 ∷ []) l.0.1 b2.0
-      (Begins-then m.0.1 (decimal p.0.0 ∷ []) p.0.1 (decimal q.0.0 ∷ decimal k.0.0 ∷ decimal l.0.0 ∷ []) l.0.1 b3.0 end)) in
+      fields.joined ts (decimal n.0.0 ∷ []) n.0.1 (decimal m.0.0 ∷ decimal p.0.0 ∷ decimal q.0.0 ∷ decimal k.0.0 ∷ decimal l.0.0 ∷ []) l.0.1 b1.0
+      (fields.joined n.0.1 (decimal m.0.0 ∷ []) m.0.1 (decimal p.0.0 ∷ decimal q.0.0 ∷ decimal k.0.0 ∷ decimal l.0.0 ∷ []) l.0.1 b2.0
+      (fields.joined m.0.1 (decimal p.0.0 ∷ []) p.0.1 (decimal q.0.0 ∷ decimal k.0.0 ∷ decimal l.0.0 ∷ []) l.0.1 b3.0 end)) in
       record {
         n = n.0.0;
         m = m.0.0;
@@ -190,11 +190,11 @@ module _ (fields : FieldsAreExact) where
   pub counts_again : (f : SurfaceFlags) (n m p q k l : ℕ) (ts rest : List Token) → Begins ts (count_texts n m p q k l) rest → AreNumbers n m p q → IsSmall k → IsSmall l
       → counts_left (counts.Udegree f) ts ≡ Ok (body_of (forms.BSpline (net_of f n m p q) k l), rest)
   counts_again f n m p q k l ts rest b are k_small l_small =
-      let s1 = Begins-split ts (decimal n ∷ []) (decimal m ∷ decimal p ∷ decimal q ∷ decimal k ∷ decimal l ∷ []) rest b in
-      let s2 = Begins-split s1.0 (decimal m ∷ []) (decimal p ∷ decimal q ∷ decimal k ∷ decimal l ∷ []) rest s1.2 in
-      let s3 = Begins-split s2.0 (decimal p ∷ []) (decimal q ∷ decimal k ∷ decimal l ∷ []) rest s2.2 in
-      let s4 = Begins-split s3.0 (decimal q ∷ []) (decimal k ∷ decimal l ∷ []) rest s3.2 in
-      let s5 = Begins-split s4.0 (decimal k ∷ []) (decimal l ∷ []) rest s4.2 in
+      let s1 = fields.split ts (decimal n ∷ []) (decimal m ∷ decimal p ∷ decimal q ∷ decimal k ∷ decimal l ∷ []) rest b in
+      let s2 = fields.split s1.0 (decimal m ∷ []) (decimal p ∷ decimal q ∷ decimal k ∷ decimal l ∷ []) rest s1.2 in
+      let s3 = fields.split s2.0 (decimal p ∷ []) (decimal q ∷ decimal k ∷ decimal l ∷ []) rest s2.2 in
+      let s4 = fields.split s3.0 (decimal q ∷ []) (decimal k ∷ decimal l ∷ []) rest s3.2 in
+      let s5 = fields.split s4.0 (decimal k ∷ []) (decimal l ∷ []) rest s4.2 in
       rw (
         fields.number.again ts s1.0 n s1.1 are.udegree_small,
         fields.number.again s1.0 s2.0 m s2.1 are.vdegree_small,
@@ -206,7 +206,7 @@ module _ (fields : FieldsAreExact) where
 
   pub flags_again : (f : SurfaceFlags) (ts mid : List Token) → Begins ts (flag_texts f) mid → spline_at ts ≡ counts_left (counts.Udegree f) mid
   flags_again f ts mid b =
-      let s1 = Begins-split ts (flag_text f.urational ∷ []) (flag_text f.vrational ∷ flag_text f.uflag ∷ flag_text f.vflag ∷ []) mid b in
-      let s2 = Begins-split s1.0 (flag_text f.vrational ∷ []) (flag_text f.uflag ∷ flag_text f.vflag ∷ []) mid s1.2 in
-      let s3 = Begins-split s2.0 (flag_text f.uflag ∷ []) (flag_text f.vflag ∷ []) mid s2.2 in
+      let s1 = fields.split ts (flag_text f.urational ∷ []) (flag_text f.vrational ∷ flag_text f.uflag ∷ flag_text f.vflag ∷ []) mid b in
+      let s2 = fields.split s1.0 (flag_text f.vrational ∷ []) (flag_text f.uflag ∷ flag_text f.vflag ∷ []) mid s1.2 in
+      let s3 = fields.split s2.0 (flag_text f.uflag ∷ []) (flag_text f.vflag ∷ []) mid s2.2 in
       rw (fields.flag.again ts s1.0 f.urational s1.1 tt, fields.flag.again s1.0 s2.0 f.vrational s2.1 tt, fields.flag.again s2.0 s3.0 f.uflag s3.1 tt, fields.flag.again s3.0 mid f.vflag s3.2 tt) refl

@@ -4,7 +4,7 @@ use Rattle.std.specs.Prelude.{MatchOption}
 use Rattle.std.specs.Iterator.{MakesProgress, YieldsFirst, item_count}
 use Rattle.entry_readers.specs.Spelled.{CanPair, pairs_left}
 use Rattle.entry_readers.specs.declared.spell.KnotsSpell.{KnotsSpell}
-use Rattle.entry_readers.proofs.Spelling.{progress}
+use Rattle.lists.proofs.Iterators.{progress}
 use Rattle.surface_tables.specs.SpellLeft.{CanGiveKnots, knots_left}
 use Rattle.surface_tables.specs.declared.part_spell.NetKnots.{NetKnots}
 

@@ -2,7 +2,8 @@
 use Rattle.std.proofs.Common.{◌≡◌, ℕ, zero, suc, ◌-◌, ◌+◌, ◌≤◌, List, [], ◌∷◌, ◌++◌, Ok, Err, None, ◌∙◌, refl, ap, arith, true, false, if◌then◌else◌}
 use Rattle.std.specs.Prelude.{nat_lt}
 use Rattle.std.proofs.lemmas.Bool.Decides.{nat_tests}
-use Rattle.entry_readers.specs.Reading.{Read, more, fault, at_token, ◌>>=◌}
+use Rattle.lists.specs.Results.{◌>>=◌}
+use Rattle.entry_readers.specs.Reading.{Read, more, fault, at_token}
 use Rattle.brep_tokens.specs.declared.text.Token.{Token}
 use Rattle.brep_tokens.specs.declared.fault.ReadCode.TheVariants as codes
 use Rattle.surface_tables.specs.Frames.{framed_by}

@@ -3,9 +3,10 @@ use Rattle.std.proofs.lemmas.Bool.Decides.{nat_tests}
 use Rattle.std.proofs.lemmas.Bool.{eqb-true}
 use Rattle.std.proofs.Common.{◌⊎◌, inl, inr, ◌≡◌, ℕ, suc, ◌*◌, ◌<◌, ◌≤◌, ◌==◌, Bool, true, false, if◌then◌else◌, List, [], ◌∷◌, ◌++◌, length, Ok, refl, sym, ap, subst, ◌∙◌, arith}
 use Rattle.std.specs.Fmt.{decimal}
-use Rattle.entry_readers.specs.Reading.{Knots, ◌>>=◌, decimals_at, knots_at}
+use Rattle.lists.specs.Results.{◌>>=◌}
+use Rattle.entry_readers.specs.Reading.{Knots, decimals_at, knots_at}
 use Rattle.entry_readers.specs.Begins.{AreDecimals, AreKnots, Begins, FieldsAreExact, IsSmall, spell_knots, zipped}
-use Rattle.entry_readers.proofs.Binds.{bind_ok, ok_is, Begins-then, Begins-split}
+use Rattle.lists.proofs.Results.{bind_ok, ok_is}
 use Rattle.brep_tokens.specs.declared.text.Token.{Token}
 use Rattle.curve_tables.specs.Curves.{curve3_at}
 use Rattle.curve_tables.specs.Laws.{CurvesAreExact}
@@ -75,7 +76,7 @@ module _ (fields : FieldsAreExact) (curves : CurvesAreExact) (nest : ℕ) (neste
       let q = ok_is (parts.Leaf (surfaces.Plain code x.0.0), x.0.1) (p, rest) x.2 in
       let one = (fields.decimals (plain_size code)).takes ts x.0.1 x.0.0 x.1 in
       let here : PartIs nest code ts x.0.1 (parts.Leaf (surfaces.Plain code x.0.0)) =
-      (λ all b. Begins-then all (decimal code ∷ []) ts x.0.0 x.0.1 b one.0, record { nested = nested; from = low; to = high; decimals = one.1 }) in
+      (λ all b. fields.joined all (decimal code ∷ []) ts x.0.0 x.0.1 b one.0, record { nested = nested; from = low; to = high; decimals = one.1 }) in
       subst (λ (z : Part × List Token). PartIs nest code ts z.1 z.0) q here
 
   swept_takes : (code : ℕ) → 6 ≤ code → code ≤ 7 → (ts rest : List Token) (p : Part) → body_at (suc nest) (body_of (forms.Swept code)) ts ≡ Ok (p, rest) → PartIs nest code ts rest p
@@ -86,7 +87,7 @@ module _ (fields : FieldsAreExact) (curves : CurvesAreExact) (nest : ℕ) (neste
       let one = (fields.decimals (swept_size code)).takes ts x.0.1 x.0.0 x.1 in
       let two = (curves.curve3 (suc nest) (omega (arith, nested))).takes x.0.1 y.0.1 y.0.0 y.1 in
       let here : PartIs nest code ts y.0.1 (parts.Leaf (surfaces.Swept code x.0.0 y.0.0)) = (
-        λ all b. Begins-then all (decimal code ∷ []) ts (x.0.0 ++ spelling3 y.0.0) y.0.1 b (Begins-then ts x.0.0 x.0.1 (spelling3 y.0.0) y.0.1 one.0 two.0),
+        λ all b. fields.joined all (decimal code ∷ []) ts (x.0.0 ++ spelling3 y.0.0) y.0.1 b (fields.joined ts x.0.0 x.0.1 (spelling3 y.0.0) y.0.1 one.0 two.0),
         record { nested = nested; from = low; to = high; decimals = one.1; inner = two.1 },
       ) in
       subst (λ (z : Part × List Token). PartIs nest code ts z.1 z.0) q here
@@ -109,7 +110,7 @@ module _ (fields : FieldsAreExact) (curves : CurvesAreExact) (nest : ℕ) (neste
       let q = ok_is (parts.Leaf (surfaces.Bezier h.u h.v h.n h.m x.0.0), x.0.1) (p, rest) x.2 in
       let one = (fields.decimals size).takes b.0.1 x.0.1 x.0.0 x.1 in
       let here : PartIs nest 8 ts x.0.1 (parts.Leaf (surfaces.Bezier h.u h.v h.n h.m x.0.0)) = (
-        λ all c. Begins-then all (decimal 8 ∷ []) ts (bezier_texts h.u h.v h.n h.m ++ x.0.0) x.0.1 c (Begins-then ts (bezier_texts h.u h.v h.n h.m) b.0.1 x.0.0 x.0.1 h.begins one.0),
+        λ all c. fields.joined all (decimal 8 ∷ []) ts (bezier_texts h.u h.v h.n h.m ++ x.0.0) x.0.1 c (fields.joined ts (bezier_texts h.u h.v h.n h.m) b.0.1 x.0.0 x.0.1 h.begins one.0),
         record { nested = nested; u_small = h.n_small; v_small = h.m_small; poles_small = h.poles_small; decimals = one.1 },
       ) in
       subst (λ (z : Part × List Token). PartIs nest 8 ts z.1 z.0) q here
@@ -125,8 +126,8 @@ module _ (fields : FieldsAreExact) (curves : CurvesAreExact) (nest : ℕ) (neste
       let counts : Begins mid (count_texts n m p q (length u.texts) (length v.texts)) last = subst (λ (z : ℕ). Begins mid (count_texts n m p q (length u.texts) z) last) (sym vl) two in
       let tail : List (List ℕ) = poles ++ (spell_knots u ++ spell_knots v) in
       let here : PartIs nest 9 ts end (net_surface (net_of f n m p q) poles u v) = (
-        λ all b. Begins-then all (decimal 9 ∷ []) ts (flag_texts f ++ (count_texts n m p q (length u.texts) (length v.texts) ++ tail)) end b
-            (Begins-then ts (flag_texts f) mid (count_texts n m p q (length u.texts) (length v.texts) ++ tail) end b1 (Begins-then mid (count_texts n m p q (length u.texts) (length v.texts)) last tail end counts b3)),
+        λ all b. fields.joined all (decimal 9 ∷ []) ts (flag_texts f ++ (count_texts n m p q (length u.texts) (length v.texts) ++ tail)) end b
+            (fields.joined ts (flag_texts f) mid (count_texts n m p q (length u.texts) (length v.texts) ++ tail) end b1 (fields.joined mid (count_texts n m p q (length u.texts) (length v.texts)) last tail end counts b3)),
         is,
       ) in
       subst (λ (z : Part × List Token). PartIs nest 9 ts z.1 z.0) same here
@@ -143,7 +144,7 @@ module _ (fields : FieldsAreExact) (curves : CurvesAreExact) (nest : ℕ) (neste
       let two = (fields.knots k).takes x.0.1 u.0.1 u.0.0 u.1 in
       let three = (fields.knots l).takes u.0.1 v.0.1 v.0.0 v.1 in
       spline_part f n m p q k l ts mid last v.0.1 rest x.0.0 u.0.0 v.0.0 part b1 b2
-      (Begins-then last x.0.0 x.0.1 (spell_knots u.0.0 ++ spell_knots v.0.0) v.0.1 one.0 (Begins-then x.0.1 (spell_knots u.0.0) u.0.1 (spell_knots v.0.0) v.0.1 two.0 three.0))
+      (fields.joined last x.0.0 x.0.1 (spell_knots u.0.0 ++ spell_knots v.0.0) v.0.1 one.0 (fields.joined x.0.1 (spell_knots u.0.0) u.0.1 (spell_knots v.0.0) v.0.1 two.0 three.0))
       (record { nested = nested; numbers = numbers; decimals = one.1; u = knots_are k u.0.0 k_small two.1; v = knots_are l v.0.0 l_small three.1 }) two.1.texts.0 three.1.texts.0 same
 
   spline_takes_part : (ts rest : List Token) (p : Part) → (spline_at ts >>= λ b. body_at (suc nest) b.0 b.1) ≡ Ok (p, rest) → PartIs nest 9 ts rest p
@@ -196,12 +197,12 @@ module _ (fields : FieldsAreExact) (curves : CurvesAreExact) (nest : ℕ) (neste
 
   extrusion_again : SweptAgain 6
   extrusion_again ts rest texts curve b are is =
-      let s = Begins-split ts texts (spelling3 curve) rest b in
+      let s = fields.split ts texts (spelling3 curve) rest b in
       rw ((fields.decimals 3).again ts s.0 texts s.1 are, (curves.curve3 (suc nest) (omega (arith, nested))).again s.0 rest curve s.2 is) refl
 
   revolution_again : SweptAgain 7
   revolution_again ts rest texts curve b are is =
-      let s = Begins-split ts texts (spelling3 curve) rest b in
+      let s = fields.split ts texts (spelling3 curve) rest b in
       rw ((fields.decimals 6).again ts s.0 texts s.1 are, (curves.curve3 (suc nest) (omega (arith, nested))).again s.0 rest curve s.2 is) refl
 
   pub swept_again : (code : ℕ) → 6 ≤ code → code ≤ 7 → SweptAgain code
@@ -212,17 +213,17 @@ module _ (fields : FieldsAreExact) (curves : CurvesAreExact) (nest : ℕ) (neste
 
   pub bezier_part_again : (u v : Bool) (n m : ℕ) (ts rest : List Token) (poles : List (List ℕ)) → Begins ts (bezier_texts u v n m ++ poles) rest → IsBezier nest u v n m poles → part_at (suc nest) 8 ts ≡ Ok (parts.Leaf (surfaces.Bezier u v n m poles), rest)
   bezier_part_again u v n m ts rest poles b is =
-      let s = Begins-split ts (bezier_texts u v n m) poles rest b in
+      let s = fields.split ts (bezier_texts u v n m) poles rest b in
       rw (bezier_again fields u v n m ts s.0 s.1 is.u_small is.v_small is.poles_small, (fields.decimals (form_size (forms.Bezier u v n m))).again s.0 rest poles s.2 is.decimals) refl
 
   pub spline_part_again : (f : SurfaceFlags) (n m p q : ℕ) (ts rest : List Token) (poles uknots : List (List ℕ)) (umult : List ℕ) (vknots : List (List ℕ)) (vmult : List ℕ)
       → Begins ts (flag_texts f ++ (count_texts n m p q (length uknots) (length vknots) ++ (poles ++ (zipped uknots umult ++ zipped vknots vmult)))) rest
       → IsBSpline nest f n m p q poles uknots umult vknots vmult → part_at (suc nest) 9 ts ≡ Ok (parts.Leaf (surfaces.BSpline f n m p q poles uknots umult vknots vmult), rest)
   spline_part_again f n m p q ts rest poles uknots umult vknots vmult b is =
-      let s1 = Begins-split ts (flag_texts f) (count_texts n m p q (length uknots) (length vknots) ++ (poles ++ (zipped uknots umult ++ zipped vknots vmult))) rest b in
-      let s2 = Begins-split s1.0 (count_texts n m p q (length uknots) (length vknots)) (poles ++ (zipped uknots umult ++ zipped vknots vmult)) rest s1.2 in
-      let s3 = Begins-split s2.0 poles (zipped uknots umult ++ zipped vknots vmult) rest s2.2 in
-      let s4 = Begins-split s3.0 (zipped uknots umult) (zipped vknots vmult) rest s3.2 in
+      let s1 = fields.split ts (flag_texts f) (count_texts n m p q (length uknots) (length vknots) ++ (poles ++ (zipped uknots umult ++ zipped vknots vmult))) rest b in
+      let s2 = fields.split s1.0 (count_texts n m p q (length uknots) (length vknots)) (poles ++ (zipped uknots umult ++ zipped vknots vmult)) rest s1.2 in
+      let s3 = fields.split s2.0 poles (zipped uknots umult ++ zipped vknots vmult) rest s2.2 in
+      let s4 = fields.split s3.0 (zipped uknots umult) (zipped vknots vmult) rest s3.2 in
       let header : spline_at ts ≡ Ok (body_of (forms.BSpline (net_of f n m p q) (length uknots) (length vknots)), s2.0) =
       flags_again fields f ts s1.0 s1.1 ∙ counts_again fields f n m p q (length uknots) (length vknots) s1.0 s2.0 s2.1 is.numbers is.u.small is.v.small in
       rw (

@@ -1,9 +1,10 @@
 -- A surface is read exactly as it is spelled.
 use Rattle.std.proofs.Common.{◌≡◌, ℕ, zero, suc, ◌+◌, ◌-◌, true, List, [], ◌∷◌, ◌++◌, length, Result, Ok, Err, refl, sym, ap, subst, ◌∙◌, arith}
 use Rattle.std.specs.Fmt.{decimal}
-use Rattle.entry_readers.specs.Reading.{Refusal, fault, at_token, ◌>>=◌}
+use Rattle.lists.specs.Results.{◌>>=◌}
+use Rattle.entry_readers.specs.Reading.{Refusal, fault, at_token}
 use Rattle.entry_readers.specs.Begins.{Begins, FieldsAreExact, IsExact, IsSmall, zipped}
-use Rattle.entry_readers.proofs.Binds.{bind_ok, ok_is, Begins-then, Begins-split}
+use Rattle.lists.proofs.Results.{bind_ok, ok_is}
 use Rattle.brep_tokens.specs.declared.text.Token.{Token}
 use Rattle.brep_tokens.specs.declared.fault.ReadCode.TheVariants as codes
 use Rattle.curve_tables.specs.Laws.{CurvesAreExact}
@@ -45,7 +46,7 @@ module _ (fields : FieldsAreExact) (curves : CurvesAreExact) where
       let one = inner mid x.0.0 x.0.1 x.1 in
       let front : Begins all (decimal (wrap_code f.wrap) ∷ []) ts = subst (λ (k : ℕ). Begins all (decimal k ∷ []) ts) is.0 b in
       let begins : Begins all (decimal (wrap_code f.wrap) ∷ (f.texts ++ spell_surface x.0.0)) x.0.1 =
-      Begins-then all (decimal (wrap_code f.wrap) ∷ []) ts (f.texts ++ spell_surface x.0.0) x.0.1 front (Begins-then ts f.texts mid (spell_surface x.0.0) x.0.1 is.1 one.0) in
+      fields.joined all (decimal (wrap_code f.wrap) ∷ []) ts (f.texts ++ spell_surface x.0.0) x.0.1 front (fields.joined ts f.texts mid (spell_surface x.0.0) x.0.1 is.1 one.0) in
       let here : Is nest all x.0.1 (framed_by f x.0.0) =
       (subst (λ (z : List (List ℕ)). Begins all z x.0.1) (sym (spelling_around f.texts x.0.0 f.wrap)) begins, sound_around f.texts x.0.0 nest f.wrap is.2 one.1) in
       subst (λ (z : Surface × List Token). Is nest all z.1 z.0) q here
@@ -77,8 +78,8 @@ module _ (fields : FieldsAreExact) (curves : CurvesAreExact) where
   around : (nest n : ℕ) → nest + suc n ≡ 64 → (w : Wrap) (texts : List (List ℕ)) (b : Surface) (ts rest : List Token) → Begins ts (decimal (wrap_code w) ∷ (texts ++ spell_surface b)) rest → IsWrapped nest w texts
       → IsSmall (wrap_code w) → is_code (wrap_code w) ≡ true → ((mid : List Token) → Begins mid (spell_surface b) rest → surface_in n mid ≡ Ok (b, rest)) → surface_in (suc n) ts ≡ Ok (wrapped w texts b, rest)
   around nest n fits w texts b ts rest begins is small known inner =
-      let s1 = Begins-split ts (decimal (wrap_code w) ∷ []) (texts ++ spell_surface b) rest begins in
-      let s2 = Begins-split s1.0 texts (spell_surface b) rest s1.2 in
+      let s1 = fields.split ts (decimal (wrap_code w) ∷ []) (texts ++ spell_surface b) rest begins in
+      let s2 = fields.split s1.0 texts (spell_surface b) rest s1.2 in
       let read : surface_in n s2.0 ≡ Ok (b, rest) = inner s2.0 s2.2 in
       opened nest n fits (wrap_code w) small known ts s1.0 s2.0 rest (parts.Open (record { wrap = w; texts = texts })) (wrapped w texts b) s1.1
       (around_again fields curves nest is.nested w s1.0 s2.0 texts s2.1 is.decimals) (rw read refl)
@@ -86,20 +87,20 @@ module _ (fields : FieldsAreExact) (curves : CurvesAreExact) where
   again : (s : Surface) (room nest : ℕ) → nest + room ≡ 64 → (ts rest : List Token) → Begins ts (spell_surface s) rest → IsSoundIn nest s → surface_in room ts ≡ Ok (s, rest)
   again (Plain code texts) zero nest fits ts rest b is = absurd (omega (arith, fits, is.nested))
   again (Plain code texts) (suc n) nest fits ts rest b is =
-      let c = Begins-split ts (decimal code ∷ []) texts rest b in
+      let c = fields.split ts (decimal code ∷ []) texts rest b in
       opened nest n fits code (omega (arith, is.to)) (plain_code code is.from is.to) ts c.0 rest rest (parts.Leaf (Plain code texts)) (Plain code texts) c.1 (plain_again fields curves nest is.nested code is.from is.to c.0 rest texts c.2 is.decimals) refl
   again (Swept code texts curve) zero nest fits ts rest b is = absurd (omega (arith, fits, is.nested))
   again (Swept code texts curve) (suc n) nest fits ts rest b is =
-      let c = Begins-split ts (decimal code ∷ []) (texts ++ spelling3 curve) rest b in
+      let c = fields.split ts (decimal code ∷ []) (texts ++ spelling3 curve) rest b in
       opened nest n fits code (omega (arith, is.to)) (swept_code code is.from is.to) ts c.0 rest rest (parts.Leaf (Swept code texts curve)) (Swept code texts curve) c.1
       (swept_again fields curves nest is.nested code is.from is.to c.0 rest texts curve c.2 is.decimals is.inner) refl
   again (Bezier u v k m poles) zero nest fits ts rest b is = absurd (omega (arith, fits, is.nested))
   again (Bezier u v k m poles) (suc n) nest fits ts rest b is =
-      let c = Begins-split ts (decimal 8 ∷ []) (bezier_texts u v k m ++ poles) rest b in
+      let c = fields.split ts (decimal 8 ∷ []) (bezier_texts u v k m ++ poles) rest b in
       opened nest n fits 8 (omega arith) refl ts c.0 rest rest (parts.Leaf (Bezier u v k m poles)) (Bezier u v k m poles) c.1 (bezier_part_again fields curves nest is.nested u v k m c.0 rest poles c.2 is) refl
   again (BSpline f k m p q poles uknots umult vknots vmult) zero nest fits ts rest b is = absurd (omega (arith, fits, is.nested))
   again (BSpline f k m p q poles uknots umult vknots vmult) (suc n) nest fits ts rest b is =
-      let c = Begins-split ts (decimal 9 ∷ []) (flag_texts f ++ (count_texts k m p q (length uknots) (length vknots) ++ (poles ++ (zipped uknots umult ++ zipped vknots vmult)))) rest b in
+      let c = fields.split ts (decimal 9 ∷ []) (flag_texts f ++ (count_texts k m p q (length uknots) (length vknots) ++ (poles ++ (zipped uknots umult ++ zipped vknots vmult)))) rest b in
       opened nest n fits 9 (omega arith) refl ts c.0 rest rest (parts.Leaf (BSpline f k m p q poles uknots umult vknots vmult)) (BSpline f k m p q poles uknots umult vknots vmult) c.1
       (spline_part_again fields curves nest is.nested f k m p q c.0 rest poles uknots umult vknots vmult c.2 is) refl
   again (Trimmed' texts place (more_of-Surface s end_of-Surface)) zero nest fits ts rest b is = absurd (omega (arith, fits, is.0.nested))

@@ -1,6 +1,7 @@
 -- What is still to read of the numbers in front of a surface's decimals.
 use Rattle.std.specs.Prelude.{◌≡◌, ℕ, ◌+◌, ◌*◌, Bool, List, ◌∷◌, Result, Ok, Err}
-use Rattle.entry_readers.specs.Reading.{Read, fault, ◌>>=◌, flag_at, number_at}
+use Rattle.lists.specs.Results.{◌>>=◌}
+use Rattle.entry_readers.specs.Reading.{Read, fault, flag_at, number_at}
 use Rattle.brep_tokens.specs.declared.text.Token.{Token}
 use Rattle.brep_tokens.specs.declared.fault.ReadFault.{ReadFault}
 use Rattle.surface_tables.specs.Bodies.{body_of}

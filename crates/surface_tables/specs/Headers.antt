@@ -1,6 +1,7 @@
 -- Reading the code of a surface and the numbers in front of its decimals.
 use Rattle.std.specs.Prelude.{ℕ, ◌*◌, ◌^◌, ◌&&◌, nat_le, nat_lt, Bool, if◌then◌else◌, List, [], ◌∷◌, Ok, Err}
-use Rattle.entry_readers.specs.Reading.{Read, more, fault, at_token, refused, ◌>>=◌, flag_at, number_at}
+use Rattle.lists.specs.Results.{◌>>=◌}
+use Rattle.entry_readers.specs.Reading.{Read, more, fault, at_token, refused, flag_at, number_at}
 use Rattle.brep_tokens.specs.declared.text.Token.{Token}
 use Rattle.brep_tokens.specs.declared.fault.ReadCode.TheVariants as codes
 use Rattle.surface_tables.specs.Bodies.{bezier_poles, body_of}

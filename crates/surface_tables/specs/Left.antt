@@ -1,6 +1,7 @@
 -- What the reader of surfaces has still to read.
 use Rattle.std.specs.Prelude.{◌≡◌, ◌-◌, ◌+◌, ℕ, List, IsSome, Option, Some, None, Ok}
-use Rattle.entry_readers.specs.Reading.{Read, ◌>>=◌}
+use Rattle.lists.specs.Results.{◌>>=◌}
+use Rattle.entry_readers.specs.Reading.{Read}
 use Rattle.entry_readers.specs.Takes.{IsOpen}
 use Rattle.brep_tokens.specs.declared.fault.Progress.{Progress}
 use Rattle.brep_tokens.specs.declared.fault.Progress.TheVariants as progress

@@ -1,6 +1,7 @@
 -- What the reader of a part has still to read.
 use Rattle.std.specs.Prelude.{◌≡◌, ◌<◌, ℕ, ◌+◌, nat_lt, if◌then◌else◌, List, ◌∷◌, Result, Ok, Err, Option, Some, None}
-use Rattle.entry_readers.specs.Reading.{Read, fault, at_token, ◌>>=◌, knots_at}
+use Rattle.lists.specs.Results.{◌>>=◌}
+use Rattle.entry_readers.specs.Reading.{Read, fault, at_token, knots_at}
 use Rattle.entry_readers.specs.Left.{decimals_left, knots_left}
 use Rattle.entry_readers.specs.Takes.{GoesOn, IsOpen, Stops}
 use Rattle.brep_tokens.specs.declared.fault.ReadCode.TheVariants as codes

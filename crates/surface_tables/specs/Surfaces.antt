@@ -1,6 +1,7 @@
 -- Reading a surface.
 use Rattle.std.specs.Prelude.{ℕ, zero, suc, ◌-◌, ◌==◌, if◌then◌else◌, List, Ok, Err}
-use Rattle.entry_readers.specs.Reading.{Read, Knots, fault, at_token, ◌>>=◌, decimals_at, knots_at}
+use Rattle.lists.specs.Results.{◌>>=◌}
+use Rattle.entry_readers.specs.Reading.{Read, Knots, fault, at_token, decimals_at, knots_at}
 use Rattle.brep_tokens.specs.declared.text.Token.{Token}
 use Rattle.brep_tokens.specs.declared.fault.ReadCode.TheVariants as codes
 use Rattle.curve_tables.specs.Curves.{curve3_at}

@@ -9,7 +9,7 @@ use Rattle.brep_tokens.specs.declared.fault.ReadCode.{ReadCode}
 use Rattle.brep_tokens.specs.declared.fault.ReadCode.TheVariants as codes
 use Rattle.entry_readers.specs.Begins.{Begins, FieldsAreExact}
 use Rattle.entry_readers.specs.Reading.{spelled}
-use Rattle.entry_readers.proofs.Binds.{Begins-then, bind_ok, ok_is}
+use Rattle.lists.proofs.Results.{bind_ok, ok_is}
 use Rattle.tshape_data.specs.Parts.{column_part, column_parts, continuity_text}
 use Rattle.tshape_data.specs.RepReading.{column_at, columns_from, continuity_at, size_of}
 use Rattle.tshape_data.specs.Sound.{AreInColumns, IsInColumn, sizes}
@@ -74,7 +74,7 @@ module _ (forms : FormsAreExact) (fields : FieldsAreExact) (b : HeadBounds) wher
       let more = columns_takes cs (ns ++ x.0.0 ∷ []) x.0.1 rest xs x.2 in (
         x.0.0 ∷ more.0,
         more.1 ∙ append_assoc ns (x.0.0 ∷ []) more.0,
-        Begins-then ts (part_text (column_part c x.0.0) ∷ []) x.0.1 (number_texts cs more.0) rest one.0 more.2,
+        fields.joined ts (part_text (column_part c x.0.0) ∷ []) x.0.1 (number_texts cs more.0) rest one.0 more.2,
         (one.1, more.3),
       )
 

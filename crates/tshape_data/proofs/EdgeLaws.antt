@@ -6,8 +6,9 @@ use Rattle.std.proofs.lemmas.List.{take_all}
 use Rattle.brep_tokens.specs.Laws.{FormsAreExact}
 use Rattle.brep_tokens.specs.declared.text.Token.{Token}
 use Rattle.entry_readers.specs.Begins.{AreDecimals, Begins, FieldsAreExact}
-use Rattle.entry_readers.specs.Reading.{Read, ◌>>=◌, decimals_at, number_at}
-use Rattle.entry_readers.proofs.Binds.{Begins-split, Begins-then, bind_ok, ok_is}
+use Rattle.lists.specs.Results.{◌>>=◌}
+use Rattle.entry_readers.specs.Reading.{Read, decimals_at, number_at}
+use Rattle.lists.proofs.Results.{bind_ok, ok_is}
 use Rattle.tshape_data.specs.Columns.{edge_columns, edge_form, edge_number, edge_texts}
 use Rattle.tshape_data.specs.Parts.{texts_in}
 use Rattle.tshape_data.specs.RepReading.{columns_at, edge_form_at, edge_kind, edge_rep_at, with_room}
@@ -137,12 +138,12 @@ module _ (forms : FormsAreExact) (fields : FieldsAreExact) (b : HeadBounds) (ver
       let are : AreInColumns (sizes b) (edge_columns form) n.0.0 = subst (AreInColumns (sizes b) (edge_columns form)) (sym one.1) one.3 in
       let begins : Begins ts (number_texts (edge_columns form) n.0.0) n.0.1 = subst (λ (ns : List ℕ). Begins ts (number_texts (edge_columns form) ns) n.0.1) (sym one.1) one.2 in
       subst (λ (q : EdgeRep × List Token). IsEdgeRep form ts q.1 q.0) p
-      (rep_built form n.0.0 x.0.0 ts x.0.1 are two.1 (Begins-then ts (number_texts (edge_columns form) n.0.0) n.0.1 x.0.0 x.0.1 begins two.0))
+      (rep_built form n.0.0 x.0.0 ts x.0.1 are two.1 (fields.joined ts (number_texts (edge_columns form) n.0.0) n.0.1 x.0.0 x.0.1 begins two.0))
 
   rep_again : (form : EdgeForm) (ns : List ℕ) (texts : List (List ℕ)) (ts rest : List Token) → AreInColumns (sizes b) (edge_columns form) ns → AreDecimals (edge_texts version form) texts
       → Begins ts (built version form ns texts) rest → edge_rep_at b version form ts ≡ Ok (edge_rep form ns texts, rest)
   rep_again form ns texts ts rest are decimals begins =
-      let s = Begins-split ts (number_texts (edge_columns form) ns) texts rest begins in
+      let s = fields.split ts (number_texts (edge_columns form) ns) texts rest begins in
       rw (columns_again forms fields b (edge_columns form) [] ts s.0 ns s.1 are, (fields.decimals (edge_texts version form)).again s.0 rest texts s.2 decimals) refl
 
   goes : (room : ℕ) (ts mid rest : List Token) (form : EdgeForm) (r : EdgeRep) → edge_form_at room ts ≡ Ok (Some form, mid) → edge_rep_at b version form mid ≡ Ok (r, rest)
@@ -153,7 +154,7 @@ module _ (forms : FormsAreExact) (fields : FieldsAreExact) (b : HeadBounds) (ver
       let number : k.0 ≡ edge_number (form_of_edge r) = k.2.0 ∙ ap edge_number (sym is.form) in
       let one : Begins ts (decimal (edge_number (form_of_edge r)) ∷ []) mid = subst (λ (n : ℕ). Begins ts (decimal n ∷ []) mid) number k.1 in
       let tail = built version (form_of_edge r) (numbers_of_edge r) (texts_of_edge r) in (
-        subst (λ (z : List (List ℕ)). Begins ts z rest) (sym (spelled version r is.sound.decimals)) (Begins-then ts (decimal (edge_number (form_of_edge r)) ∷ []) mid tail rest one is.begins),
+        subst (λ (z : List (List ℕ)). Begins ts z rest) (sym (spelled version r is.sound.decimals)) (fields.joined ts (decimal (edge_number (form_of_edge r)) ∷ []) mid tail rest one is.begins),
         is.sound,
       )
 
@@ -161,7 +162,7 @@ module _ (forms : FormsAreExact) (fields : FieldsAreExact) (b : HeadBounds) (ver
       → (f : EdgeForm) × (mid : List Token) × (edge_form_at (suc room) ts ≡ Ok (Some f, mid)) × (edge_rep_at b version f mid ≡ Ok (r, rest))
   again room ts rest r begins sound =
       let tail = built version (form_of_edge r) (numbers_of_edge r) (texts_of_edge r) in
-      let s = Begins-split ts (decimal (edge_number (form_of_edge r)) ∷ []) tail rest (subst (λ (z : List (List ℕ)). Begins ts z rest) (spelled version r sound.decimals) begins) in (
+      let s = fields.split ts (decimal (edge_number (form_of_edge r)) ∷ []) tail rest (subst (λ (z : List (List ℕ)). Begins ts z rest) (spelled version r sound.decimals) begins) in (
         form_of_edge r,
         s.0,
         form_again fields room (form_of_edge r) ts s.0 s.1,

@@ -4,8 +4,8 @@ use Rattle.std.specs.Cmp.Lexicographic.{pointwise}
 use Rattle.brep_tokens.specs.Laws.{FormsAreExact}
 use Rattle.brep_tokens.specs.declared.text.Token.{Token}
 use Rattle.entry_readers.specs.Begins.{Begins, FieldsAreExact}
-use Rattle.entry_readers.specs.Reading.{◌>>=◌}
-use Rattle.entry_readers.proofs.Binds.{Begins-split, Begins-then, bind_ok, ok_is}
+use Rattle.lists.specs.Results.{◌>>=◌}
+use Rattle.lists.proofs.Results.{bind_ok, ok_is}
 use Rattle.orientation.specs.Kinds.{name_of}
 use Rattle.orientation.specs.Laws.{SignsAndNamesTell}
 use Rattle.tshape_data.specs.Flags.{flag_code, spell_flags}
@@ -39,15 +39,15 @@ module _ (forms : FormsAreExact) (fields : FieldsAreExact) (tell : SignsAndNames
       let one = kind_takes ts k.0.1 k.0.0 k.1 in
       let two = payload_takes forms fields b version k.0.0 k.0.1 p.0.1 p.0.0 p.1 in
       let three = flags_takes p.0.1 f.0.1 f.0.0 f.1 in
-      let begins = Begins-then ts (name_of k.0.0 ∷ []) k.0.1 (spell_payload version p.0.0 ++ spell_flags f.0.0 ∷ []) f.0.1 one
-      (Begins-then k.0.1 (spell_payload version p.0.0) p.0.1 (spell_flags f.0.0 ∷ []) f.0.1 two.begins three) in
+      let begins = fields.joined ts (name_of k.0.0 ∷ []) k.0.1 (spell_payload version p.0.0 ++ spell_flags f.0.0 ∷ []) f.0.1 one
+      (fields.joined k.0.1 (spell_payload version p.0.0) p.0.1 (spell_flags f.0.0 ∷ []) f.0.1 two.begins three) in
       let fits : Fits b version (record { kind = k.0.0; payload = p.0.0; flags = f.0.0 }) = record { sound = two.sound; few = omega (arith, two.few, few) } in
       subst (λ (q : Head × List Token). Begins ts (spell_head version q.0) q.1 × Fits b version q.0) same (begins, fits)
 
   again : (ts rest : List Token) (h : Head) → Begins ts (spell_head version h) rest → Fits b version h → head_at b version ts ≡ Ok (h, rest)
   again ts rest h begins fits =
-      let k = Begins-split ts (name_of h.kind ∷ []) (spell_payload version h.payload ++ spell_flags h.flags ∷ []) rest begins in
-      let p = Begins-split k.0 (spell_payload version h.payload) (spell_flags h.flags ∷ []) rest k.2 in
+      let k = fields.split ts (name_of h.kind ∷ []) (spell_payload version h.payload ++ spell_flags h.flags ∷ []) rest begins in
+      let p = fields.split k.0 (spell_payload version h.payload) (spell_flags h.flags ∷ []) rest k.2 in
       let is : IsPayload forms fields b version h.kind k.0 p.0 h.payload = record { begins = p.1; sound = fits.sound; few = omega (arith, fits.few) } in
       rw (
         kind_again tell ts k.0 h.kind k.1,

@@ -8,8 +8,9 @@ use Rattle.brep_tokens.specs.Forms.{flag_text}
 use Rattle.brep_tokens.specs.Laws.{FormsAreExact}
 use Rattle.brep_tokens.specs.declared.text.Token.{Token}
 use Rattle.entry_readers.specs.Begins.{Begins, FieldsAreExact}
-use Rattle.entry_readers.specs.Reading.{Read, ◌>>=◌, decimals_at, flag_at, ranged_at}
-use Rattle.entry_readers.proofs.Binds.{Begins-split, Begins-then, bind_ok, ok_is}
+use Rattle.lists.specs.Results.{◌>>=◌}
+use Rattle.entry_readers.specs.Reading.{Read, decimals_at, flag_at, ranged_at}
+use Rattle.lists.proofs.Results.{bind_ok, ok_is}
 use Rattle.orientation.specs.declared.kind.Kind.{Kind}
 use Rattle.orientation.specs.declared.kind.Kind.TheVariants.{Ve, Ed, Wi, Fa, Sh, So, CS, Co}
 use Rattle.tshape_data.specs.HeadReading.{edge_at, face_at, mesh_at, payload_at, room_of, vertex_at}
@@ -57,7 +58,7 @@ module _ (forms : FormsAreExact) (fields : FieldsAreExact) (b : HeadBounds) wher
       let same = ok_is (vertex_of x.0.0 r.0.0, r.0.1) (p, rest) r.2 in
       let one = (fields.decimals 4).takes ts x.0.1 x.0.0 x.1 in
       let reps = reps_takes param_at (point_rep_at b) point_rep_texts vertex_end (IsSoundPoint (sizes b)) (points_exact forms fields b) (room_of b) [] x.0.1 r.0.1 r.0.0 r.1 in
-      let begins = Begins-then ts x.0.0 x.0.1 (flat_map point_rep_texts reps.new ++ vertex_end) r.0.1 one.0 reps.begins in
+      let begins = fields.joined ts x.0.0 x.0.1 (flat_map point_rep_texts reps.new ++ vertex_end) r.0.1 one.0 reps.begins in
       let whole : IsPayload version Ve ts r.0.1 (vertex_of x.0.0 reps.new) = record {
         begins = subst (λ (z : List (List ℕ)). Begins ts z r.0.1) (sym (vertex_spelled version (record { texts = x.0.0; points = reps.new }))) begins;
         sound = record { decimals = one.1; points = reps.sound };
@@ -69,7 +70,7 @@ module _ (forms : FormsAreExact) (fields : FieldsAreExact) (b : HeadBounds) wher
   vertex_again : (version : ℕ) (ts rest : List Token) (d : VertexData) → IsPayload version Ve ts rest (Vertex d) → vertex_at b ts ≡ Ok (Vertex d, rest)
   vertex_again version ts rest d is =
       let begins = subst (λ (z : List (List ℕ)). Begins ts z rest) (vertex_spelled version d) is.begins in
-      let s = Begins-split ts d.texts (flat_map point_rep_texts d.points ++ vertex_end) rest begins in
+      let s = fields.split ts d.texts (flat_map point_rep_texts d.points ++ vertex_end) rest begins in
       let reps : points_at b (room_of b) s.0 ≡ Ok (d.points, rest) =
       reps_again param_at (point_rep_at b) point_rep_texts vertex_end (IsSoundPoint (sizes b)) (points_exact forms fields b) (room_of b) [] d.points s.0 rest s.2 is.sound.points is.few in
       rw ((fields.decimals 4).again ts s.0 d.texts s.1 is.sound.decimals, reps) refl
@@ -101,10 +102,10 @@ module _ (forms : FormsAreExact) (fields : FieldsAreExact) (b : HeadBounds) wher
       let one = (fields.decimals 1).takes ts x.0.1 x.0.0 x.1 in
       let reps = reps_takes edge_form_at (edge_rep_at b version) (edge_rep_texts version) edge_end (IsSoundEdgeRep (sizes b) version) (edge_reps_exact forms fields b version) (room_of b) [] f3.0.1 r.0.1 r.0.0 r.1 in
       let after = edge_reps_texts version reps.new in
-      let begins = Begins-then ts x.0.0 x.0.1 (flag_text f1.0.0 ∷ flag_text f2.0.0 ∷ flag_text f3.0.0 ∷ after) r.0.1 one.0
-      (Begins-then x.0.1 (flag_text f1.0.0 ∷ []) f1.0.1 (flag_text f2.0.0 ∷ flag_text f3.0.0 ∷ after) r.0.1 (fields.flag.takes x.0.1 f1.0.1 f1.0.0 f1.1).0
-      (Begins-then f1.0.1 (flag_text f2.0.0 ∷ []) f2.0.1 (flag_text f3.0.0 ∷ after) r.0.1 (fields.flag.takes f1.0.1 f2.0.1 f2.0.0 f2.1).0
-      (Begins-then f2.0.1 (flag_text f3.0.0 ∷ []) f3.0.1 after r.0.1 (fields.flag.takes f2.0.1 f3.0.1 f3.0.0 f3.1).0 reps.begins))) in
+      let begins = fields.joined ts x.0.0 x.0.1 (flag_text f1.0.0 ∷ flag_text f2.0.0 ∷ flag_text f3.0.0 ∷ after) r.0.1 one.0
+      (fields.joined x.0.1 (flag_text f1.0.0 ∷ []) f1.0.1 (flag_text f2.0.0 ∷ flag_text f3.0.0 ∷ after) r.0.1 (fields.flag.takes x.0.1 f1.0.1 f1.0.0 f1.1).0
+      (fields.joined f1.0.1 (flag_text f2.0.0 ∷ []) f2.0.1 (flag_text f3.0.0 ∷ after) r.0.1 (fields.flag.takes f1.0.1 f2.0.1 f2.0.0 f2.1).0
+      (fields.joined f2.0.1 (flag_text f3.0.0 ∷ []) f3.0.1 after r.0.1 (fields.flag.takes f2.0.1 f3.0.1 f3.0.0 f3.1).0 reps.begins))) in
       let whole : IsPayload version Ed ts r.0.1 (edge_of x.0.0 f1.0.0 f2.0.0 f3.0.0 reps.new) = record {
         begins = subst (λ (z : List (List ℕ)). Begins ts z r.0.1)
             (sym (edge_spelled version (record { tolerance = x.0.0; same_parameter = f1.0.0; same_range = f2.0.0; degenerated = f3.0.0; reps = reps.new }))) begins;
@@ -118,10 +119,10 @@ module _ (forms : FormsAreExact) (fields : FieldsAreExact) (b : HeadBounds) wher
   edge_again version ts rest d is =
       let begins = subst (λ (z : List (List ℕ)). Begins ts z rest) (edge_spelled version d) is.begins in
       let after = edge_reps_texts version d.reps in
-      let s = Begins-split ts d.tolerance (edge_flags d ++ after) rest begins in
-      let f1 = Begins-split s.0 (flag_text d.same_parameter ∷ []) (flag_text d.same_range ∷ flag_text d.degenerated ∷ after) rest s.2 in
-      let f2 = Begins-split f1.0 (flag_text d.same_range ∷ []) (flag_text d.degenerated ∷ after) rest f1.2 in
-      let f3 = Begins-split f2.0 (flag_text d.degenerated ∷ []) after rest f2.2 in
+      let s = fields.split ts d.tolerance (edge_flags d ++ after) rest begins in
+      let f1 = fields.split s.0 (flag_text d.same_parameter ∷ []) (flag_text d.same_range ∷ flag_text d.degenerated ∷ after) rest s.2 in
+      let f2 = fields.split f1.0 (flag_text d.same_range ∷ []) (flag_text d.degenerated ∷ after) rest f1.2 in
+      let f3 = fields.split f2.0 (flag_text d.degenerated ∷ []) after rest f2.2 in
       let reps : edge_reps_at b version (room_of b) f3.0 ≡ Ok (d.reps, rest) =
       reps_again edge_form_at (edge_rep_at b version) (edge_rep_texts version) edge_end (IsSoundEdgeRep (sizes b) version) (edge_reps_exact forms fields b version) (room_of b) [] d.reps f3.0 rest f3.2 is.sound.reps is.few in
       rw (
@@ -188,10 +189,10 @@ module _ (forms : FormsAreExact) (fields : FieldsAreExact) (b : HeadBounds) wher
       let surface = (fields.ranged 0 b.surfaces).takes x.0.1 s.0.1 s.0.0 s.1 in
       let location = (fields.ranged 0 b.locations).takes s.0.1 l.0.1 l.0.0 l.1 in
       let mesh = mesh_takes l.0.1 m.0.1 m.0.0 m.1 in
-      let begins = Begins-then ts (flag_text f.0.0 ∷ []) f.0.1 (x.0.0 ++ decimal s.0.0 ∷ decimal l.0.0 ∷ mesh_texts m.0.0) m.0.1 flag
-      (Begins-then f.0.1 x.0.0 x.0.1 (decimal s.0.0 ∷ decimal l.0.0 ∷ mesh_texts m.0.0) m.0.1 tolerance.0
-      (Begins-then x.0.1 (decimal s.0.0 ∷ []) s.0.1 (decimal l.0.0 ∷ mesh_texts m.0.0) m.0.1 surface.0
-      (Begins-then s.0.1 (decimal l.0.0 ∷ []) l.0.1 (mesh_texts m.0.0) m.0.1 location.0 mesh.0))) in
+      let begins = fields.joined ts (flag_text f.0.0 ∷ []) f.0.1 (x.0.0 ++ decimal s.0.0 ∷ decimal l.0.0 ∷ mesh_texts m.0.0) m.0.1 flag
+      (fields.joined f.0.1 x.0.0 x.0.1 (decimal s.0.0 ∷ decimal l.0.0 ∷ mesh_texts m.0.0) m.0.1 tolerance.0
+      (fields.joined x.0.1 (decimal s.0.0 ∷ []) s.0.1 (decimal l.0.0 ∷ mesh_texts m.0.0) m.0.1 surface.0
+      (fields.joined s.0.1 (decimal l.0.0 ∷ []) l.0.1 (mesh_texts m.0.0) m.0.1 location.0 mesh.0))) in
       let whole : IsPayload version Fa ts m.0.1 (face_of f.0.0 x.0.0 s.0.0 l.0.0 m.0.0) = record {
         begins = subst (λ (z : List (List ℕ)). Begins ts z m.0.1) (sym (face_spelled version (record { natural = f.0.0; tolerance = x.0.0; surface = s.0.0; location = l.0.0; mesh = m.0.0 }))) begins;
         sound = record { decimals = tolerance.1; surface = surface.1; location = location.1; mesh = mesh.1 };
@@ -202,10 +203,10 @@ module _ (forms : FormsAreExact) (fields : FieldsAreExact) (b : HeadBounds) wher
   face_again : (version : ℕ) (ts rest : List Token) (d : FaceData) → IsNotTwo rest → IsPayload version Fa ts rest (Face d) → face_at b ts ≡ Ok (Face d, rest)
   face_again version ts rest d not_two is =
       let begins = subst (λ (z : List (List ℕ)). Begins ts z rest) (face_spelled version d) is.begins in
-      let f = Begins-split ts (flag_text d.natural ∷ []) (d.tolerance ++ decimal d.surface ∷ decimal d.location ∷ mesh_texts d.mesh) rest begins in
-      let x = Begins-split f.0 d.tolerance (decimal d.surface ∷ decimal d.location ∷ mesh_texts d.mesh) rest f.2 in
-      let s = Begins-split x.0 (decimal d.surface ∷ []) (decimal d.location ∷ mesh_texts d.mesh) rest x.2 in
-      let l = Begins-split s.0 (decimal d.location ∷ []) (mesh_texts d.mesh) rest s.2 in
+      let f = fields.split ts (flag_text d.natural ∷ []) (d.tolerance ++ decimal d.surface ∷ decimal d.location ∷ mesh_texts d.mesh) rest begins in
+      let x = fields.split f.0 d.tolerance (decimal d.surface ∷ decimal d.location ∷ mesh_texts d.mesh) rest f.2 in
+      let s = fields.split x.0 (decimal d.surface ∷ []) (decimal d.location ∷ mesh_texts d.mesh) rest x.2 in
+      let l = fields.split s.0 (decimal d.location ∷ []) (mesh_texts d.mesh) rest s.2 in
       rw (
         fields.flag.again ts f.0 d.natural f.1 tt,
         (fields.decimals 1).again f.0 x.0 d.tolerance x.1 is.sound.decimals,

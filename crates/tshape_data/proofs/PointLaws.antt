@@ -10,8 +10,9 @@ use Rattle.brep_tokens.specs.Forms.{is_decimal}
 use Rattle.brep_tokens.specs.Laws.{FormsAreExact}
 use Rattle.brep_tokens.specs.declared.text.Token.{Token}
 use Rattle.entry_readers.specs.Begins.{AreDecimals, Begins, FieldsAreExact, IsDecimal}
-use Rattle.entry_readers.specs.Reading.{Read, Refusal, ◌>>=◌, decimal_at, decimals_at, decimals_from, number_at}
-use Rattle.entry_readers.proofs.Binds.{Begins-split, Begins-then, bind_ok, guard_ok, ok_is}
+use Rattle.lists.specs.Results.{◌>>=◌}
+use Rattle.entry_readers.specs.Reading.{Read, Refusal, decimal_at, decimals_at, decimals_from, number_at}
+use Rattle.lists.proofs.Results.{bind_ok, guard_ok, ok_is}
 use Rattle.tshape_data.specs.Columns.{point_columns, point_form, point_number, second_texts}
 use Rattle.tshape_data.specs.Parts.{column_parts, tokens}
 use Rattle.tshape_data.specs.RepReading.{columns_at, param_at, point_form_at, point_kind, point_rep_at, unknown_code, with_room}
@@ -129,7 +130,7 @@ module _ (fields : FieldsAreExact) where
       let read : IsRead room ts k.0.1 (option_map (λ f. (d.0.0, f)) k.0.0) = record {
         param = d.0.0;
         n = two.0;
-        begins = Begins-then ts (d.0.0 ∷ []) d.0.1 (decimal two.0 ∷ []) k.0.1 one.0 two.1;
+        begins = fields.joined ts (d.0.0 ∷ []) d.0.1 (decimal two.0 ∷ []) k.0.1 one.0 two.1;
         is_decimal = one.1;
         kind = with_param room d.0.0 two.0 k.0.0 two.2;
       } in
@@ -144,7 +145,7 @@ module _ (fields : FieldsAreExact) where
 
   param_again : (param : List ℕ) (room : ℕ) (form : PointForm) (ts rest : List Token) → IsDecimal param → Begins ts (param ∷ decimal (point_number form) ∷ []) rest → param_at (suc room) ts ≡ Ok (Some (param, form), rest)
   param_again param room form ts rest is b =
-      let s = Begins-split ts (param ∷ []) (decimal (point_number form) ∷ []) rest b in
+      let s = fields.split ts (param ∷ []) (decimal (point_number form) ∷ []) rest b in
       rw (fields.texts.again ts s.0 param s.1 is, form_again param room form s.0 rest s.2) refl
 
   none_again : FormsAreExact → (room : ℕ) (ts rest : List Token) → Begins ts (codes "0" ∷ []) rest → point_form_at (codes "0") room ts ≡ Ok (None, rest)
@@ -155,7 +156,7 @@ module _ (fields : FieldsAreExact) where
 
   end_again : FormsAreExact → (room : ℕ) (ts rest : List Token) → Begins ts (codes "0" ∷ codes "0" ∷ []) rest → param_at room ts ≡ Ok (None, rest)
   end_again forms room ts rest b =
-      let s = Begins-split ts (codes "0" ∷ []) (codes "0" ∷ []) rest b in
+      let s = fields.split ts (codes "0" ∷ []) (codes "0" ∷ []) rest b in
       rw (fields.texts.again ts s.0 (codes "0") s.1 zero_decimal, none_again forms room s.0 rest s.2) refl
 
 -- ---- what follows it
@@ -211,7 +212,7 @@ module _ (forms : FormsAreExact) (fields : FieldsAreExact) (b : HeadBounds) wher
       let same = ok_is (point_rep form n.0.0 x.0.0, n.0.1) (p, rest) n.2 in
       let one = second_takes fields param (second_texts form) ts x.0.1 x.0.0 x.1 in
       let two = columns_takes forms fields b (point_columns form) [] x.0.1 n.0.1 n.0.0 n.1 in
-      let is = rep_built form two.0 param one.0 ts n.0.1 two.3 first one.3 (Begins-then ts one.0 x.0.1 (number_texts (point_columns form) two.0) n.0.1 one.2 two.2) in
+      let is = rep_built form two.0 param one.0 ts n.0.1 two.3 first one.3 (fields.joined ts one.0 x.0.1 (number_texts (point_columns form) two.0) n.0.1 one.2 two.2) in
       let whole_same : point_rep form two.0 (param ∷ one.0) ≡ point_rep form n.0.0 x.0.0 = ap (λ (texts : List (List ℕ)). point_rep form two.0 texts) (sym one.1) ∙ ap (λ (ns : List ℕ). point_rep form ns x.0.0) (sym two.1) in
       subst (λ (q : PointRep × List Token). IsPointRep form param ts q.1 q.0) same
       (subst (λ (q : PointRep). IsPointRep form param ts n.0.1 q) whole_same is)
@@ -219,7 +220,7 @@ module _ (forms : FormsAreExact) (fields : FieldsAreExact) (b : HeadBounds) wher
   rep_again : (form : PointForm) (ns : List ℕ) (param : List ℕ) (second : List (List ℕ)) (ts rest : List Token) → AreInColumns (sizes b) (point_columns form) ns → AreDecimals (second_texts form) second
       → Begins ts (tail form ns second) rest → point_rep_at b (param, form) ts ≡ Ok (point_rep form ns (param ∷ second), rest)
   rep_again form ns param second ts rest are decimals begins =
-      let s = Begins-split ts second (number_texts (point_columns form) ns) rest begins in
+      let s = fields.split ts second (number_texts (point_columns form) ns) rest begins in
       rw (
         after_first param [] (second_texts form) ts,
         (fields.decimals (second_texts form)).again ts s.0 second s.1 decimals,
@@ -235,7 +236,7 @@ module _ (forms : FormsAreExact) (fields : FieldsAreExact) (b : HeadBounds) wher
       let number : k.n ≡ point_number (form_of_point p) = k.kind.0 ∙ ap point_number (sym is.form) in
       let begins : Begins ts (f.0 ∷ decimal (point_number (form_of_point p)) ∷ []) mid = rw (param_same, ← number) k.begins in
       let after = tail (form_of_point p) (numbers_of_point p) is.second in (
-        subst (λ (z : List (List ℕ)). Begins ts z rest) (sym (spelled p f.0 is.second is.texts)) (Begins-then ts (f.0 ∷ decimal (point_number (form_of_point p)) ∷ []) mid after rest begins is.begins),
+        subst (λ (z : List (List ℕ)). Begins ts z rest) (sym (spelled p f.0 is.second is.texts)) (fields.joined ts (f.0 ∷ decimal (point_number (form_of_point p)) ∷ []) mid after rest begins is.begins),
         is.sound,
       )
 
@@ -245,7 +246,7 @@ module _ (forms : FormsAreExact) (fields : FieldsAreExact) (b : HeadBounds) wher
   again_of room ts rest p (param ∷ second) same begins are decimals =
       let form = form_of_point p in
       let ns = numbers_of_point p in
-      let s = Begins-split ts (param ∷ decimal (point_number form) ∷ []) (tail form ns second) rest (subst (λ (z : List (List ℕ)). Begins ts z rest) (spelled p param second same) begins) in
+      let s = fields.split ts (param ∷ decimal (point_number form) ∷ []) (tail form ns second) rest (subst (λ (z : List (List ℕ)). Begins ts z rest) (spelled p param second same) begins) in
       let many : length second ≡ second_texts form = omega (arith, decimals.0) in
       let read = rep_again form ns param second s.0 rest are (many, decimals.1.1) s.2 in
       let back : point_rep form ns (param ∷ second) ≡ p = ap (point_rep form ns) (sym same) ∙ same_rep p in (

@@ -2,7 +2,8 @@
 use Rattle.std.proofs.Common.{◌≡◌, ℕ, zero, suc, ◌-◌, ◌<◌, List, [], ◌∷◌, ◌++◌, Option, Some, None, Ok, Err, refl, arith}
 use Rattle.brep_tokens.specs.declared.text.Token.{Token}
 use Rattle.brep_tokens.specs.declared.fault.ReadCode.TheVariants as faults
-use Rattle.entry_readers.specs.Reading.{Read, fault, at_token, ◌>>=◌}
+use Rattle.lists.specs.Results.{◌>>=◌}
+use Rattle.entry_readers.specs.Reading.{Read, fault, at_token}
 use Rattle.tshape_data.specs.RepReading.{most_reps, reps_from, with_room}
 use Rattle.tshape_data.specs.RepsLeft.{then_reps}
 

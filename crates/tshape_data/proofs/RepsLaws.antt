@@ -4,8 +4,9 @@ use Rattle.std.specs.List.{AllByRecursion, flat_map}
 use Rattle.std.specs.Option.{option_map_or}
 use Rattle.brep_tokens.specs.declared.text.Token.{Token}
 use Rattle.entry_readers.specs.Begins.{Begins}
-use Rattle.entry_readers.specs.Reading.{Read, ◌>>=◌}
-use Rattle.entry_readers.proofs.Binds.{Begins-split, Begins-then, bind_ok, ok_is}
+use Rattle.lists.specs.Results.{◌>>=◌}
+use Rattle.entry_readers.specs.Reading.{Read}
+use Rattle.lists.proofs.Results.{bind_ok, ok_is}
 use Rattle.tshape_data.specs.RepReading.{reps_from}
 
 module _ {F A : Type 0} (form_at : ℕ → List Token → Read (Option F)) (rep_at : F → List Token → Read A) (text_of : A → List (List ℕ)) (end : List (List ℕ)) (Sound : A → Type 0) where
@@ -58,7 +59,7 @@ module _ {F A : Type 0} (form_at : ℕ → List Token → Read (Option F)) (rep_
           new = b.0.0 ∷ more.new;
           all = more.all ∙ append_assoc reps (b.0.0 ∷ []) more.new;
           begins = subst (λ (z : List (List ℕ)). Begins ts z rest) (sym (append_assoc (text_of b.0.0) (flat_map text_of more.new) end))
-              (Begins-then ts (text_of b.0.0) b.0.1 (flat_map text_of more.new ++ end) rest r.0 more.begins);
+              (fields.joined ts (text_of b.0.0) b.0.1 (flat_map text_of more.new ++ end) rest r.0 more.begins);
           sound = (r.1, more.sound);
           few = omega (arith, more.few);
         }
@@ -84,6 +85,6 @@ module _ {F A : Type 0} (form_at : ℕ → List Token → Read (Option F)) (rep_
     reps_again zero reps (r ∷ new) ts rest b sound few = absurd (omega (arith, few))
     reps_again (suc room) reps (r ∷ new) ts rest b sound few =
         let joined = subst (λ (z : List (List ℕ)). Begins ts z rest) (append_assoc (text_of r) (flat_map text_of new) end) b in
-        let s = Begins-split ts (text_of r) (flat_map text_of new ++ end) rest joined in
+        let s = fields.split ts (text_of r) (flat_map text_of new ++ end) rest joined in
         let x = one.rep_again room ts s.0 r s.1 sound.0 in
         rw (x.2, x.3, reps_again room (reps ++ r ∷ []) new s.0 rest s.2 sound.1 (omega (arith, few)), append_assoc reps (r ∷ []) new) refl

@@ -6,8 +6,9 @@ use Rattle.brep_tokens.specs.Forms.{flag_text}
 use Rattle.brep_tokens.specs.Laws.{FormsAreExact}
 use Rattle.brep_tokens.specs.declared.text.Token.{Token}
 use Rattle.entry_readers.specs.Begins.{Begins, FieldsAreExact}
-use Rattle.entry_readers.specs.Reading.{Read, ◌>>=◌, decimals_at, flag_at}
-use Rattle.entry_readers.proofs.Binds.{Begins-split, ok_is}
+use Rattle.lists.specs.Results.{◌>>=◌}
+use Rattle.entry_readers.specs.Reading.{Read, decimals_at, flag_at}
+use Rattle.lists.proofs.Results.{ok_is}
 use Rattle.orientation.specs.declared.kind.Kind.{Kind}
 use Rattle.orientation.specs.declared.kind.Kind.TheVariants.{Ve, Ed, Wi, Fa, Sh, So, CS, Co}
 use Rattle.orientation.specs.Kinds.{name_of}
@@ -54,7 +55,7 @@ module _ (forms : FormsAreExact) (fields : FieldsAreExact) (tell : SignsAndNames
   vertex_read : (ts rest : List Token) (d : VertexData) → length d.points ≤ room → IsSoundVertex (sizes b) d → Begins ts (spell_payload version (Vertex d)) rest → vertex_within ts ≡ Ok (Vertex d, rest)
   vertex_read ts rest d few sound spelled =
       let begins = subst (λ (z : List (List ℕ)). Begins ts z rest) (vertex_spelled version d) spelled in
-      let s = Begins-split ts d.texts (flat_map point_rep_texts d.points ++ vertex_end) rest begins in
+      let s = fields.split ts d.texts (flat_map point_rep_texts d.points ++ vertex_end) rest begins in
       let reps : points_at b room s.0 ≡ Ok (d.points, rest) =
       reps_again param_at (point_rep_at b) point_rep_texts vertex_end (IsSoundPoint (sizes b)) (points_exact forms fields b) room [] d.points s.0 rest s.2 sound.points few in
       rw ((fields.decimals 4).again ts s.0 d.texts s.1 sound.decimals, reps) refl
@@ -69,10 +70,10 @@ module _ (forms : FormsAreExact) (fields : FieldsAreExact) (tell : SignsAndNames
   edge_read ts rest d few sound spelled =
       let begins = subst (λ (z : List (List ℕ)). Begins ts z rest) (edge_spelled version d) spelled in
       let after = edge_reps_texts version d.reps in
-      let s = Begins-split ts d.tolerance (edge_flags d ++ after) rest begins in
-      let f1 = Begins-split s.0 (flag_text d.same_parameter ∷ []) (flag_text d.same_range ∷ flag_text d.degenerated ∷ after) rest s.2 in
-      let f2 = Begins-split f1.0 (flag_text d.same_range ∷ []) (flag_text d.degenerated ∷ after) rest f1.2 in
-      let f3 = Begins-split f2.0 (flag_text d.degenerated ∷ []) after rest f2.2 in
+      let s = fields.split ts d.tolerance (edge_flags d ++ after) rest begins in
+      let f1 = fields.split s.0 (flag_text d.same_parameter ∷ []) (flag_text d.same_range ∷ flag_text d.degenerated ∷ after) rest s.2 in
+      let f2 = fields.split f1.0 (flag_text d.same_range ∷ []) (flag_text d.degenerated ∷ after) rest f1.2 in
+      let f3 = fields.split f2.0 (flag_text d.degenerated ∷ []) after rest f2.2 in
       let reps : edge_reps_at b version room f3.0 ≡ Ok (d.reps, rest) =
       reps_again edge_form_at (edge_rep_at b version) (edge_rep_texts version) edge_end (IsSoundEdgeRep (sizes b) version) (edge_reps_exact forms fields b version) room [] d.reps f3.0 rest f3.2 sound.reps few in
       rw (
@@ -107,8 +108,8 @@ module _ (forms : FormsAreExact) (fields : FieldsAreExact) (tell : SignsAndNames
 
   head_read : (ts rest : List Token) (h : Head) → rep_count h.payload ≤ room → IsSoundHead (sizes b) version h → Begins ts (spell_head version h) rest → head_within ts ≡ Ok (h, rest)
   head_read ts rest h few sound begins =
-      let k = Begins-split ts (name_of h.kind ∷ []) (spell_payload version h.payload ++ spell_flags h.flags ∷ []) rest begins in
-      let p = Begins-split k.0 (spell_payload version h.payload) (spell_flags h.flags ∷ []) rest k.2 in
+      let k = fields.split ts (name_of h.kind ∷ []) (spell_payload version h.payload ++ spell_flags h.flags ∷ []) rest begins in
+      let p = fields.split k.0 (spell_payload version h.payload) (spell_flags h.flags ∷ []) rest k.2 in
       rw (
         kind_again tell ts k.0 h.kind k.1,
         payload_read h.kind k.0 p.0 h.payload (flags_not_two p.0 rest h.flags p.2) few sound p.1,

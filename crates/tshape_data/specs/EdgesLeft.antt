@@ -2,7 +2,8 @@
 use Rattle.std.specs.Prelude.{◌≡◌, ◌<◌, ◌-◌, ℕ, List, [], ◌∷◌, ◌++◌, Ok}
 use Rattle.brep_tokens.specs.declared.text.Token.{Token}
 use Rattle.entry_readers.specs.Left.{decimals_left}
-use Rattle.entry_readers.specs.Reading.{Read, decimals_at, ◌>>=◌}
+use Rattle.lists.specs.Results.{◌>>=◌}
+use Rattle.entry_readers.specs.Reading.{Read, decimals_at}
 use Rattle.tshape_data.specs.Columns.{edge_columns, edge_texts}
 use Rattle.tshape_data.specs.ColumnsLeft.{HasNumbers, HasSomeNumbers, IsNumberDue, columns_left, numbers_of}
 use Rattle.tshape_data.specs.RepReading.{edge_form_at, edge_rep_at, reps_from}

@@ -3,7 +3,8 @@ use Rattle.std.specs.Prelude.{◌≡◌, ◌<◌, ◌-◌, ℕ, List, [], ◌∷
 use Rattle.std.specs.Option.{option_map}
 use Rattle.brep_tokens.specs.declared.text.Token.{Token}
 use Rattle.entry_readers.specs.Left.{decimals_left}
-use Rattle.entry_readers.specs.Reading.{Read, ◌>>=◌}
+use Rattle.lists.specs.Results.{◌>>=◌}
+use Rattle.entry_readers.specs.Reading.{Read}
 use Rattle.tshape_data.specs.Columns.{point_columns}
 use Rattle.tshape_data.specs.ColumnsLeft.{HasSomeNumbers, IsNumberDue, columns_left}
 use Rattle.tshape_data.specs.RepReading.{columns_at, param_at, point_form_at, point_rep_at, reps_from}

@@ -5,7 +5,8 @@ use Rattle.std.specs.Option.{option_map, option_map_or}
 use Rattle.brep_tokens.specs.Forms.{continuity_of}
 use Rattle.brep_tokens.specs.declared.text.Token.{Token}
 use Rattle.brep_tokens.specs.declared.fault.ReadCode.TheVariants as faults
-use Rattle.entry_readers.specs.Reading.{Read, Refusal, fault, more, ◌>>=◌, at_token, spelled, decimal_at, decimals_at, decimals_from, number_at, ranged_at}
+use Rattle.lists.specs.Results.{◌>>=◌}
+use Rattle.entry_readers.specs.Reading.{Read, Refusal, fault, more, at_token, spelled, decimal_at, decimals_at, decimals_from, number_at, ranged_at}
 use Rattle.tshape_data.specs.Columns.{edge_columns, edge_form, edge_texts, point_columns, point_form, second_texts}
 use Rattle.tshape_data.specs.Reps.{edge_rep, point_rep}
 use Rattle.tshape_data.specs.declared.head_bounds.HeadBounds.{HeadBounds}

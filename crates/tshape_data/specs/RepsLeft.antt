@@ -5,7 +5,8 @@ use Rattle.brep_tokens.specs.declared.fault.Progress.{Progress}
 use Rattle.brep_tokens.specs.declared.fault.Progress.TheVariants as progress
 use Rattle.brep_tokens.specs.declared.fault.ReadFault.{ReadFault}
 use Rattle.brep_tokens.specs.declared.text.Token.{Token}
-use Rattle.entry_readers.specs.Reading.{Read, Refusal, fault, ◌>>=◌}
+use Rattle.lists.specs.Results.{◌>>=◌}
+use Rattle.entry_readers.specs.Reading.{Read, Refusal, fault}
 use Rattle.tshape_data.specs.RepReading.{reps_from}
 
 -- the test of a form's number has this answer

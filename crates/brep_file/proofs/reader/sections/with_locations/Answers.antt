@@ -1,7 +1,8 @@
 use Rattle.std.specs.Prelude.{codes}
 use Rattle.std.proofs.Common.{[], sym, subst}
 use Rattle.brep_file.specs.declared.file.File.{File}
-use Rattle.entry_readers.specs.Reading.{Read, ◌>>=◌}
+use Rattle.lists.specs.Results.{◌>>=◌}
+use Rattle.entry_readers.specs.Reading.{Read}
 use Rattle.brep_file.specs.FileReading.{from_curve2s, from_locations}
 use Rattle.brep_file.specs.Giving.{Fails, from_placed, front}
 use Rattle.brep_file.specs.SectionReading.{heading_at, locations_from}

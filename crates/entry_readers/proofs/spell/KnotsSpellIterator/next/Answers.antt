@@ -1,9 +1,10 @@
-use Rattle.entry_readers.specs.Spelled.{pairs_left, CanPair}
-use Rattle.entry_readers.proofs.Spelling.{progress, half_step, text_step, short_first, short_after}
+use Rattle.entry_readers.specs.Spelled.{pairs_left, CanPair, IsShort}
+use Rattle.lists.proofs.Iterators.{first_of_all, progress}
+use Rattle.entry_readers.proofs.Spelling.{half_step, text_step, short_after}
 use Rattle.entry_readers.proofs.spell.KnotsSpellIterator.next.Goals as goal
 
 pub of-requires : goal.of-requires
-of-requires c = short_first c.args.self.now.texts.now c.args.self.now.at c.in-Some-get.x.now c.in-Some-get.ensures.some c.requires.short
+of-requires c = first_of_all IsShort c.args.self.now.texts.now c.args.self.now.at c.in-Some-get.x.now c.in-Some-get.ensures.some c.requires.short
 
 pub returns-in-Some-clause-steps : goal.returns-in-Some-clause-steps
 returns-in-Some-clause-steps c =

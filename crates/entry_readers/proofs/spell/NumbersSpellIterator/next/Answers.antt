@@ -1,6 +1,7 @@
 -- The next number's text, and the others.
 use Rattle.entry_readers.specs.Spelled.{numbers_left}
-use Rattle.entry_readers.proofs.Spelling.{next_number, progress}
+use Rattle.lists.proofs.Iterators.{progress}
+use Rattle.entry_readers.proofs.Spelling.{next_number}
 use Rattle.entry_readers.proofs.spell.NumbersSpellIterator.next.Goals as goal
 
 pub returns-in-Some-clause-steps : goal.returns-in-Some-clause-steps

@@ -1,7 +1,8 @@
 -- One more factor is read, and its word is multiplied out.
 use Rattle.std.proofs.Common.{◌≡◌, List, length, [], Ok, to_z, of_z, w64, refl, ap, sym, subst, ◌∙◌}
 use Rattle.std.proofs.lemmas.Int.{to_z-of_z}
-use Rattle.entry_readers.specs.Reading.{Read, ◌>>=◌}
+use Rattle.lists.specs.Results.{◌>>=◌}
+use Rattle.entry_readers.specs.Reading.{Read}
 use Rattle.location_table.specs.declared.entry.Factor.{Factor}
 use Rattle.location_table.specs.declared.entry.LocationEntry.{LocationEntry}
 use Rattle.location_table.specs.declared.entry.LocationEntry.TheVariants.{Product}

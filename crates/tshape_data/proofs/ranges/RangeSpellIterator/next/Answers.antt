@@ -1,8 +1,8 @@
 -- The next decimal of the range, and the others.
 use Rattle.std.proofs.Common.{◌≡◌, ◌+◌, ◌<◌, ℕ, zero, suc, List, [], ◌∷◌, drop, take, Some, ap, arith, sym, ◌∙◌}
 use Rattle.std.specs.Prelude.{slice_get}
-use Rattle.entry_readers.specs.Spelled.{AreShort}
-use Rattle.entry_readers.proofs.Spelling.{next_item, progress, short_first, short_rest}
+use Rattle.entry_readers.specs.Spelled.{AreShort, IsShort}
+use Rattle.lists.proofs.Iterators.{first_of_all, next_item, progress, rest_of_all}
 use Rattle.tshape_data.specs.SpellLeft.{range_left}
 use Rattle.tshape_data.proofs.ranges.RangeSpellIterator.next.Goals as goal
 
@@ -16,7 +16,7 @@ taken_item (y ∷ ys) (suc i) (suc end) x e lt = taken_item ys i end x e (omega 
 pub of-requires : goal.of-requires
 of-requires c =
     let s = c.args.self.now in
-    short_first (take s.end s.texts.now) s.at c.in-Some.x.now (taken_item s.texts.now s.at s.end c.in-Some.x.now c.in-Some.ensures.some c.if-self.false) c.requires
+    first_of_all IsShort (take s.end s.texts.now) s.at c.in-Some.x.now (taken_item s.texts.now s.at s.end c.in-Some.x.now c.in-Some.ensures.some c.if-self.false) c.requires
 
 pub returns-in-Some-clause-steps : goal.returns-in-Some-clause-steps
 returns-in-Some-clause-steps c =
@@ -28,4 +28,4 @@ pub returns-in-Some-clause-goes : goal.returns-in-Some-clause-goes
 returns-in-Some-clause-goes c =
     let s = c.args.self.now in
     progress (λ r. AreShort (range_left r)) range_left s c.of.result _ (returns-in-Some-clause-steps c)
-    (short_rest (take s.end s.texts.now) s.at c.in-Some.x.now (taken_item s.texts.now s.at s.end c.in-Some.x.now c.in-Some.ensures.some c.if-self.false) c.requires)
+    (rest_of_all IsShort (take s.end s.texts.now) s.at c.in-Some.x.now (taken_item s.texts.now s.at s.end c.in-Some.x.now c.in-Some.ensures.some c.if-self.false) c.requires)
