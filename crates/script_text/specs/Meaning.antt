@@ -1,5 +1,5 @@
 -- What a phrase means, and which of its numbers is out of range.
-use Rattle.std.specs.Prelude.{◌≡◌, ◌⊎◌, ℕ, ◌&&◌, nat_le, if◌then◌else◌, unwrap_or, List, [], ◌∷◌, map, Option, Some, None, Result, Ok, Err}
+use Rattle.std.specs.Prelude.{◌≡◌, ◌⊎◌, ℕ, ◌&&◌, nat_le, if◌then◌else◌, unwrap_or, List, [], ◌∷◌, map, MatchResult, Option, Some, None, Result, Ok, Err}
 use Rattle.orientation.specs.declared.turn.Turn.{Turn}
 use Rattle.orientation.specs.declared.turn.Turn.TheVariants.{Forward}
 use Rattle.script_text.specs.Reading.{phrase_of}
@@ -91,6 +91,14 @@ command_of_line shapes locations line =
 -- memory is wanted, or the fact holds
 abbrev pub OrNoMemory : LineFault → Type 0 → Type 0
 OrNoMemory f P = (f ≡ NoMemory) ⊎ P
+
+-- the value, where there is no fault; else the fault
+abbrev pub Tells : {A : Type 0} → Option LineFault → A → Result A LineFault → Type 0
+Tells fault value result = MatchResult result (λ x. (fault ≡ None) × (x ≡ value)) (λ f. fault ≡ Some f)
+
+-- so, or memory is wanted
+abbrev pub TellsOrWants : {A : Type 0} → Option LineFault → A → Result A LineFault → Type 0
+TellsOrWants fault value result = MatchResult result (λ x. (fault ≡ None) × (x ≡ value)) (λ f. OrNoMemory f (fault ≡ Some f))
 
 -- the answer is this, or memory is wanted
 abbrev pub Gives : Result (Option Command) LineFault → Result (Option Command) LineFault → Type 0

@@ -1,9 +1,9 @@
 //! The command that a line spells.
-ghost use Rattle.std.specs.Prelude.{◌≡◌, Err, MatchResult, None, Ok, Some, map, true};
+ghost use Rattle.std.specs.Prelude.{◌≡◌, None, Ok, map, true};
 ghost use Rattle.script_text.specs.Answers.{Answers};
 ghost use Rattle.script_text.specs.Words.{is_nothing, words_of};
-ghost use Rattle.script_text.specs.Meaning.{Gives, OrNoMemory, command_of_line, fault_of, first_fault, location_fault, meaning_of, mentions_fault, number_of_mention, selection, selection_fault, shape_fault, signed_name, target_of, turn_of_mention};
-ghost use Rattle.script_text.specs.declared.command.Command.TheVariants as commands;
+ghost use Rattle.script_text.specs.Meaning.{Gives, Tells, TellsOrWants, command_of_line, fault_of, location_fault, meaning_of, mentions_fault, number_of_mention, selection, selection_fault, shape_fault, signed_name, turn_of_mention};
+ghost use Rattle.script_text.specs.declared.phrase.Phrase.TheVariants.{Replace};
 
 use crate::command::{Command, LineFault, Sel, SignedName, Tgt};
 use crate::line_words::says_nothing;
@@ -14,7 +14,7 @@ use orientation::Turn;
 use std::alloc::Global;
 
 fn shape(number: u64, shapes: u32) -> Result<u32, LineFault>
-    ensures { MatchResult result (λ n. (shape_fault shapes number ≡ None) × (n ≡ number)) (λ f. shape_fault shapes number ≡ Some f) }
+    ensures { Tells (shape_fault shapes number) number result }
 {
     if 1 <= number && number <= u64::from(shapes) {
         Ok(number as u32)
@@ -24,7 +24,7 @@ fn shape(number: u64, shapes: u32) -> Result<u32, LineFault>
 }
 
 fn location(number: Option<u64>, locations: u32) -> Result<Option<u32>, LineFault>
-    ensures { MatchResult result (λ n. (location_fault locations number ≡ None) × (n ≡ number)) (λ f. location_fault locations number ≡ Some f) }
+    ensures { Tells (location_fault locations number) number result }
 {
     match number {
         None => Ok(None),
@@ -51,19 +51,15 @@ fn selected(
     shapes: u32,
     locations: u32,
 ) -> Result<Sel, LineFault>
-    ensures { MatchResult result (λ s. (selection_fault shapes locations source.now place ≡ None) × (s ≡ selection source.now place)) (λ f. selection_fault shapes locations source.now place ≡ Some f) }
+    ensures { Tells (selection_fault shapes locations source.now place) (selection source.now place) result }
 {
-    match shape(source.number, shapes) {
-        Err(f) => Err(f),
-        Ok(name) => match location(place, locations) {
-            Err(f) => Err(f),
-            Ok(place) => Ok(Sel {
-                name,
-                turn: source.sign,
-                place,
-            }),
-        },
-    }
+    let name = shape(source.number, shapes)?;
+    let place = location(place, locations)?;
+    Ok(Sel {
+        name,
+        turn: source.sign,
+        place,
+    })
 }
 
 fn replacement(
@@ -74,55 +70,39 @@ fn replacement(
     shapes: u32,
     locations: u32,
 ) -> Result<Command, LineFault>
-    ensures { MatchResult result (λ c. (first_fault (selection_fault shapes locations source.now place) (selection_fault shapes locations target.now at) ≡ None) × (c ≡ commands.Replace (selection source.now place) (target_of target.now place at))) (λ f. first_fault (selection_fault shapes locations source.now place) (selection_fault shapes locations target.now at) ≡ Some f) }
+    ensures { Tells (fault_of shapes locations (Replace source.now place target.now at)) (meaning_of (Replace source.now place target.now at)) result }
 {
-    match selected(source, place, shapes, locations) {
-        Err(f) => Err(f),
-        Ok(sel) => match selected(target, at, shapes, locations) {
-            Err(f) => Err(f),
-            Ok(to) => Ok(Command::Replace {
-                sel,
-                tgt: Tgt {
-                    name: to.name,
-                    turn: turn(target),
-                    location: to.place.unwrap_or(sel.place.unwrap_or(0)),
-                },
-            }),
-        },
-    }
+    let sel = selected(source, place, shapes, locations)?;
+    let to = selected(target, at, shapes, locations)?;
+    let tgt = Tgt {
+        name: to.name,
+        turn: turn(target),
+        location: to.place.unwrap_or(sel.place.unwrap_or(0)),
+    };
+    Ok(Command::Replace { sel, tgt })
 }
 
 fn names(alloc: Global, mentions: &[Mention], shapes: u32) -> Result<Names, LineFault>
-    ensures { MatchResult result (λ ns. (mentions_fault shapes mentions.now ≡ None) × (ns ≡ map number_of_mention mentions.now)) (λ f. OrNoMemory f (mentions_fault shapes mentions.now ≡ Some f)) }
+    ensures { TellsOrWants (mentions_fault shapes mentions.now) (map number_of_mention mentions.now) result }
 {
     let mut names = Names::new(alloc);
     'mentions: for mention in mentions {
-        match shape(mention.number, shapes) {
-            Err(f) => return Err(f),
-            Ok(name) => match names.push(name) {
-                Err(_) => return Err(LineFault::NoMemory),
-                Ok(()) => {}
-            },
-        }
+        let name = shape(mention.number, shapes)?;
+        names.push(name).map_err(|_| LineFault::NoMemory)?;
     }
     Ok(names)
 }
 
 fn signed_names(alloc: Global, mentions: &[Mention], shapes: u32) -> Result<SignedNames, LineFault>
-    ensures { MatchResult result (λ ns. (mentions_fault shapes mentions.now ≡ None) × (ns ≡ map signed_name mentions.now)) (λ f. OrNoMemory f (mentions_fault shapes mentions.now ≡ Some f)) }
+    ensures { TellsOrWants (mentions_fault shapes mentions.now) (map signed_name mentions.now) result }
 {
     let mut names = SignedNames::new(alloc);
     'mentions: for mention in mentions {
-        match shape(mention.number, shapes) {
-            Err(f) => return Err(f),
-            Ok(name) => match names.push(SignedName {
-                name,
-                turn: turn(mention),
-            }) {
-                Err(_) => return Err(LineFault::NoMemory),
-                Ok(()) => {}
-            },
-        }
+        let name = shape(mention.number, shapes)?;
+        let turn = turn(mention);
+        names
+            .push(SignedName { name, turn })
+            .map_err(|_| LineFault::NoMemory)?;
     }
     Ok(names)
 }
@@ -134,7 +114,7 @@ fn command(
     shapes: u32,
     locations: u32,
 ) -> Result<Command, LineFault>
-    ensures { MatchResult result (λ c. (fault_of shapes locations phrase.now ≡ None) × (c ≡ meaning_of phrase.now)) (λ f. OrNoMemory f (fault_of shapes locations phrase.now ≡ Some f)) }
+    ensures { TellsOrWants (fault_of shapes locations phrase.now) (meaning_of phrase.now) result }
 {
     match phrase {
         Phrase::Replace {
@@ -143,18 +123,16 @@ fn command(
             target,
             location,
         } => replacement(source, *place, target, *location, shapes, locations),
-        Phrase::Remove { source, place } => match selected(source, *place, shapes, locations) {
-            Err(f) => Err(f),
-            Ok(sel) => Ok(Command::Remove { sel }),
-        },
-        Phrase::Merge(mentions) => match names(alloc, mentions.as_slice(), shapes) {
-            Err(f) => Err(f),
-            Ok(names) => Ok(Command::Merge(names)),
-        },
-        Phrase::Sew(mentions) => match signed_names(alloc, mentions.as_slice(), shapes) {
-            Err(f) => Err(f),
-            Ok(names) => Ok(Command::Sew(names)),
-        },
+        Phrase::Remove { source, place } => {
+            let sel = selected(source, *place, shapes, locations)?;
+            Ok(Command::Remove { sel })
+        }
+        Phrase::Merge(mentions) => Ok(Command::Merge(names(alloc, mentions.as_slice(), shapes)?)),
+        Phrase::Sew(mentions) => Ok(Command::Sew(signed_names(
+            alloc,
+            mentions.as_slice(),
+            shapes,
+        )?)),
         Phrase::Apply => Ok(Command::Apply),
         Phrase::Undo => Ok(Command::Undo),
     }
@@ -175,10 +153,7 @@ fn parsed(
     match phrase(alloc, line) {
         Err(_) => Err(LineFault::NoMemory),
         Ok(None) => Err(LineFault::Syntax),
-        Ok(Some(spelled)) => match command(alloc, &spelled, shapes, locations) {
-            Err(f) => Err(f),
-            Ok(meant) => Ok(Some(meant)),
-        },
+        Ok(Some(spelled)) => Ok(Some(command(alloc, &spelled, shapes, locations)?)),
     }
 }
 
