@@ -9,7 +9,8 @@ use Rattle.orientation.specs.Kinds.{kind_of_letters, kind_of_name, name_of}
 use Rattle.orientation.specs.Laws.{SignsAndNamesTell}
 use Rattle.orientation.specs.declared.kind.Kind.{Kind}
 use Rattle.orientation.specs.declared.kind.Kind.TheVariants.{Ve, Ed, Wi, Fa, Sh, So, CS, Co}
-use Rattle.tshape_data.specs.Flags.{are_flags, flag_code, flags_from, flags_of, is_flag, spell_flags}
+use Rattle.brep_tokens.specs.Bytes.{is_flag}
+use Rattle.tshape_data.specs.Flags.{are_flags, flag_code, flags_from, flags_of, spell_flags}
 use Rattle.tshape_data.specs.HeadReading.{flags_at, kind_at}
 use Rattle.tshape_data.specs.declared.head.Flags.{Flags}
 use Rattle.tshape_data.proofs.ColumnLaws.{spelled_ok}

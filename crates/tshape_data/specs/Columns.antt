@@ -60,6 +60,19 @@ edge_columns edges.Polygon = Entry Polygons ∷ Location ∷ []
 edge_columns edges.PolygonOn = Entry PolygonsOn ∷ Entry Meshes ∷ Location ∷ []
 edge_columns edges.SeamPolygons = Entry PolygonsOn ∷ Entry PolygonsOn ∷ Entry Meshes ∷ Location ∷ []
 
+-- a continuity stands among the numbers: of two p-curves on a closed surface, or of two surfaces
+abbrev pub HasContinuity : EdgeForm → Type 0
+HasContinuity edges.Seam = Unit {0}
+HasContinuity edges.Joint = Unit {0}
+HasContinuity _ = ⊥
+
+-- a polygon, or polygons on a triangulation
+abbrev pub IsPolygonal : EdgeForm → Type 0
+IsPolygonal edges.Polygon = Unit {0}
+IsPolygonal edges.PolygonOn = Unit {0}
+IsPolygonal edges.SeamPolygons = Unit {0}
+IsPolygonal _ = ⊥
+
 -- the first and the last parameter of a p-curve, and in version 2 its first and its last UV point
 abbrev pub p_curve_texts : ℕ → ℕ
 p_curve_texts version = if version == 2 then 6 else 2

@@ -1,8 +1,10 @@
 -- What the reader of a representation's numbers has still to read.
-use Rattle.std.specs.Prelude.{ℕ, ◌≡◌, ◌<◌, ◌≤◌, List, [], ◌∷◌, length, take, drop}
+use Rattle.std.specs.Prelude.{ℕ, ◌≡◌, ◌<◌, ◌≤◌, List, [], ◌∷◌, Result, length, take, drop}
+use Rattle.brep_tokens.specs.declared.fault.ReadStop.{ReadStop}
 use Rattle.brep_tokens.specs.declared.text.Token.{Token}
 use Rattle.entry_readers.specs.Reading.{Read}
-use Rattle.tshape_data.specs.RepReading.{columns_from}
+use Rattle.entry_readers.specs.Takes.{StepsOn}
+use Rattle.tshape_data.specs.RepReading.{columns_at, columns_from}
 use Rattle.tshape_data.specs.declared.head_bounds.HeadBounds.{HeadBounds}
 use Rattle.tshape_data.specs.declared.columns.Column.{Column}
 use Rattle.tshape_data.specs.declared.columns.Column.TheVariants.{Entry, Location, Continuity}
@@ -27,6 +29,14 @@ numbers_of r = take r.len r.numbers
 -- What is left to read of the numbers for these columns.
 abbrev pub columns_left : HeadBounds → List Column → ColumnsDue → List Token → Read (List ℕ)
 columns_left b cs r ts = columns_from b (numbers_of r) (drop r.len cs) ts
+
+-- whatever the columns are, all of their numbers are left
+abbrev pub AllAreLeft : ColumnsDue → Type 0
+AllAreLeft r = (b : HeadBounds) (cs : List Column) (ts : List Token) → columns_left b cs r ts ≡ columns_at b cs ts
+
+-- the next number for these columns was taken
+abbrev pub TakesNumber : HeadBounds → List Column → ColumnsDue → Token → ColumnsDue → Result (Unit {0}) ReadStop → Type 0
+TakesNumber b cs old t new result = StepsOn (columns_left b cs old) t (columns_left b cs new) result
 
 -- a number is due, and there is room for it
 pub record IsNumberDue (cs : List Column) (r : ColumnsDue) : Type 0 where

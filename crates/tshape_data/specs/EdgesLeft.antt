@@ -1,13 +1,17 @@
 -- What the reader of an edge's representations has still to read.
-use Rattle.std.specs.Prelude.{◌≡◌, ◌<◌, ◌-◌, ℕ, List, [], ◌∷◌, ◌++◌, Ok}
+use Rattle.std.specs.Prelude.{◌≡◌, ◌<◌, ◌-◌, ℕ, List, [], ◌∷◌, ◌++◌, Result, Ok}
+use Rattle.brep_tokens.specs.declared.fault.Progress.{Progress}
+use Rattle.brep_tokens.specs.declared.fault.ReadStop.{ReadStop}
 use Rattle.brep_tokens.specs.declared.text.Token.{Token}
 use Rattle.entry_readers.specs.Left.{decimals_left}
 use Rattle.lists.specs.Results.{◌>>=◌}
 use Rattle.entry_readers.specs.Reading.{Read, decimals_at}
+use Rattle.entry_readers.specs.Takes.{StepsOn, Takes}
 use Rattle.tshape_data.specs.Columns.{edge_columns, edge_texts}
 use Rattle.tshape_data.specs.ColumnsLeft.{HasNumbers, HasSomeNumbers, IsNumberDue, columns_left, numbers_of}
 use Rattle.tshape_data.specs.RepReading.{edge_form_at, edge_rep_at, reps_from}
 use Rattle.tshape_data.specs.Reps.{edge_rep}
+use Rattle.tshape_data.specs.RepsLeft.{Settles}
 use Rattle.tshape_data.specs.declared.edge_reps_reader.EdgeRepsReader.{EdgeRepsReader}
 use Rattle.tshape_data.specs.declared.edge_reps_reader.EdgeStage.{EdgeStage}
 use Rattle.tshape_data.specs.declared.edge_reps_reader.EdgeStage.TheVariants as stages
@@ -60,3 +64,15 @@ IsStepped stages.Form r = Unit {0}
 IsStepped (stages.Numbers form) r = HasSomeNumbers (edge_columns form) r.columns
 IsStepped (stages.Texts form) r = HasNumbers (edge_columns form) r.columns
 IsStepped stages.Whole r = Unit {0}
+
+-- a token was taken at this stage, and what is left is left at the same stage
+abbrev pub StepsAt : EdgeStage → EdgeRepsReader → Token → EdgeRepsReader → Result (Unit {0}) ReadStop → Type 0
+StepsAt stage old t new result = StepsOn (at_stage stage old) t (at_stage stage new) result
+
+-- what was left at this stage is left, and a token is due, or the end was read
+abbrev pub SettlesFrom : EdgeStage → EdgeRepsReader → EdgeRepsReader → Progress → Type 0
+SettlesFrom stage old new progress = Settles (at_stage stage old) (edges_left new) (IsWaiting new) (IsDone new) progress
+
+-- A token was taken.
+abbrev pub TakesEdges : EdgeRepsReader → Token → EdgeRepsReader → Result Progress ReadStop → Type 0
+TakesEdges old t new result = Takes (edges_left old) t (edges_left new) (IsWaiting new) (IsDone new) result

@@ -1,16 +1,17 @@
 -- What the reader of a head has still to read.
 use Rattle.std.specs.Prelude.{◌≡◌, ◌<◌, ℕ, Bool, List, ◌∷◌, Option, Some, Result, Ok, Err}
+use Rattle.brep_tokens.specs.declared.fault.Progress.{Progress}
 use Rattle.brep_tokens.specs.declared.fault.ReadStop.{ReadStop}
 use Rattle.brep_tokens.specs.declared.text.Token.{Token}
 use Rattle.entry_readers.specs.Left.{decimals_left}
 use Rattle.lists.specs.Results.{◌>>=◌}
 use Rattle.entry_readers.specs.Reading.{Read, decimals_at, flag_at, ranged_at}
-use Rattle.entry_readers.specs.Takes.{Stops}
+use Rattle.entry_readers.specs.Takes.{Stops, Takes}
 use Rattle.orientation.specs.declared.kind.Kind.{Kind}
 use Rattle.orientation.specs.declared.kind.Kind.TheVariants.{Ve, Ed, Fa}
 use Rattle.tshape_data.specs.EdgesLeft as edges
 use Rattle.tshape_data.specs.EdgesLeft.{edges_left}
-use Rattle.tshape_data.specs.HeadReading.{edge_at, face_at, flagged_at, head_at, mesh_at, room_of}
+use Rattle.tshape_data.specs.HeadReading.{edge_at, face_at, flagged_at, head_at, mesh_at, payload_at, room_of}
 use Rattle.tshape_data.specs.PointsLeft as points
 use Rattle.tshape_data.specs.PointsLeft.{points_left}
 use Rattle.tshape_data.specs.RepReading.{edge_reps_at, points_at}
@@ -160,3 +161,11 @@ IsWholeStage _ = ⊥
 -- The head is whole.
 abbrev pub IsDone : HeadReader → Type 0
 IsDone r = IsWholeStage r.stage
+
+-- the data of this kind are left, and the flags
+abbrev pub DataAreLeft : Kind → HeadReader → HeadReader → Type 0
+DataAreLeft kind old new = (ts : List Token) → head_left new ts ≡ then_flags kind (payload_at old.bounds old.version kind ts)
+
+-- a token was taken at this stage
+abbrev pub TakesAt : Stage → HeadReader → Token → HeadReader → Result Progress ReadStop → Type 0
+TakesAt stage old t new result = Takes (at_stage stage old) t (head_left new) (IsWaiting new) (IsDone new) result

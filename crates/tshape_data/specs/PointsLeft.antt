@@ -1,15 +1,18 @@
 -- What the reader of a vertex's representations has still to read.
-use Rattle.std.specs.Prelude.{◌≡◌, ◌<◌, ◌-◌, ℕ, List, [], ◌∷◌, ◌++◌, Ok}
+use Rattle.std.specs.Prelude.{◌≡◌, ◌<◌, ◌-◌, ℕ, List, [], ◌∷◌, ◌++◌, Result, Ok}
 use Rattle.std.specs.Option.{option_map}
+use Rattle.brep_tokens.specs.declared.fault.Progress.{Progress}
+use Rattle.brep_tokens.specs.declared.fault.ReadStop.{ReadStop}
 use Rattle.brep_tokens.specs.declared.text.Token.{Token}
 use Rattle.entry_readers.specs.Left.{decimals_left}
 use Rattle.lists.specs.Results.{◌>>=◌}
 use Rattle.entry_readers.specs.Reading.{Read}
+use Rattle.entry_readers.specs.Takes.{StepsOn, Takes}
 use Rattle.tshape_data.specs.Columns.{point_columns}
 use Rattle.tshape_data.specs.ColumnsLeft.{HasSomeNumbers, IsNumberDue, columns_left}
 use Rattle.tshape_data.specs.RepReading.{columns_at, param_at, point_form_at, point_rep_at, reps_from}
 use Rattle.tshape_data.specs.Reps.{point_rep}
-use Rattle.tshape_data.specs.RepsLeft.{then_reps}
+use Rattle.tshape_data.specs.RepsLeft.{Settles, then_reps}
 use Rattle.tshape_data.specs.declared.forms.PointForm.{PointForm}
 use Rattle.tshape_data.specs.declared.point_reps_reader.PointRepsReader.{PointRepsReader}
 use Rattle.tshape_data.specs.declared.point_reps_reader.PointStage.{PointStage}
@@ -65,3 +68,15 @@ IsStepped stages.Form r = Unit {0}
 IsStepped (stages.Texts form) r = Unit {0}
 IsStepped (stages.Numbers form) r = HasSomeNumbers (point_columns form) r.columns
 IsStepped stages.Whole r = Unit {0}
+
+-- a token was taken at this stage, and what is left is left at the same stage
+abbrev pub StepsAt : PointStage → PointRepsReader → Token → PointRepsReader → Result (Unit {0}) ReadStop → Type 0
+StepsAt stage old t new result = StepsOn (at_stage stage old) t (at_stage stage new) result
+
+-- what was left at this stage is left, and a token is due, or the end was read
+abbrev pub SettlesFrom : PointStage → PointRepsReader → PointRepsReader → Progress → Type 0
+SettlesFrom stage old new progress = Settles (at_stage stage old) (points_left new) (IsWaiting new) (IsDone new) progress
+
+-- A token was taken.
+abbrev pub TakesPoints : PointRepsReader → Token → PointRepsReader → Result Progress ReadStop → Type 0
+TakesPoints old t new result = Takes (points_left old) t (points_left new) (IsWaiting new) (IsDone new) result

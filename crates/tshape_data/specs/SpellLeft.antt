@@ -6,11 +6,12 @@ use Rattle.brep_tokens.specs.Forms.{flag_text}
 use Rattle.entry_readers.specs.Spelled.{AreShort}
 use Rattle.orientation.specs.Kinds.{name_of}
 use Rattle.tshape_data.specs.Flags.{spell_flags}
-use Rattle.tshape_data.specs.Columns.{point_columns}
-use Rattle.tshape_data.specs.Parts.{column_parts, continuity_text, edge_rep_parts, point_parts}
-use Rattle.tshape_data.specs.Reps.{form_of_point, numbers_of_point, texts_of_point}
+use Rattle.tshape_data.specs.Columns.{edge_columns, edge_number, point_columns, point_number}
+use Rattle.tshape_data.specs.Parts.{column_parts, continuity_text, edge_rep_parts, mesh_parts, point_parts}
+use Rattle.tshape_data.specs.Reps.{form_of_edge, form_of_point, numbers_of_edge, numbers_of_point, texts_of_point}
 use Rattle.tshape_data.specs.Short.{IsShortEdgeRep, IsShortPoint}
 use Rattle.tshape_data.specs.Spelling.{part_text}
+use Rattle.tshape_data.specs.declared.head.FaceData.{FaceData}
 use Rattle.tshape_data.specs.declared.head.Flags.{Flags}
 use Rattle.tshape_data.specs.declared.reps.PointRep.{PointRep}
 use Rattle.tshape_data.specs.declared.reps.EdgeRep.{EdgeRep}
@@ -60,11 +61,30 @@ chunk_left c = words_left c.before ++ (range_of c.texts ++ words_left c.after)
 abbrev pub CanGiveChunk : ChunkSpell → Type 0
 CanGiveChunk c = CanGiveRange c.texts
 
+-- ---- numbers
+
+-- a representation of a vertex: its numbers but that of its form
+abbrev pub point_number_texts : PointRep → List (List ℕ)
+point_number_texts p = map part_text (column_parts (point_columns (form_of_point p)) (numbers_of_point p))
+
+-- a representation of an edge: the number of its form, and its other numbers
+abbrev pub edge_number_texts : EdgeRep → List (List ℕ)
+edge_number_texts r =
+    decimal (edge_number (form_of_edge r)) ∷ map part_text (column_parts (edge_columns (form_of_edge r)) (numbers_of_edge r))
+
+-- a face: its surface, its location, and its triangulation, if it has one
+abbrev pub face_number_texts : FaceData → List (List ℕ)
+face_number_texts d = decimal d.surface ∷ decimal d.location ∷ map part_text (mesh_parts d.mesh)
+
 -- ---- the whole
 
--- the tokens of a representation of a vertex behind the number of its form
+-- the tokens of a representation of a vertex up to the number of its form
+abbrev pub first_texts : PointRep → List (List ℕ)
+first_texts p = take 1 (texts_of_point p) ++ decimal (point_number (form_of_point p)) ∷ []
+
+-- and those behind it
 abbrev pub rest_texts : PointRep → List (List ℕ)
-rest_texts p = drop 1 (texts_of_point p) ++ map part_text (column_parts (point_columns (form_of_point p)) (numbers_of_point p))
+rest_texts p = drop 1 (texts_of_point p) ++ point_number_texts p
 
 -- representations of a vertex, and what stands behind them
 abbrev pub points_left : Flags → List PointRep → List (List ℕ)

@@ -1,12 +1,7 @@
 //! The numbers of a representation, column by column.
-ghost use Rattle.std.specs.Prelude.{◌≡◌, ◌≤◌, ◌+◌, List, OnOk, length, []};
-ghost use Rattle.entry_readers.specs.Takes.{StepsOn};
+ghost use Rattle.std.specs.Prelude.{◌≡◌, ◌≤◌, ◌+◌, OnOk, length, []};
 ghost use Rattle.tshape_data.specs.Columns.{edge_columns as columns_of_edge, point_columns as columns_of_point};
-ghost use Rattle.tshape_data.specs.ColumnsLeft.{FitColumns, IsNumberDue, columns_left, numbers_of};
-ghost use Rattle.tshape_data.specs.RepReading.{columns_at};
-ghost use Rattle.tshape_data.specs.declared.head_bounds.HeadBounds.{HeadBounds};
-ghost use Rattle.tshape_data.specs.declared.columns.Column.{Column};
-ghost use Rattle.brep_tokens.specs.declared.text.Token.{Token};
+ghost use Rattle.tshape_data.specs.ColumnsLeft.{AllAreLeft, FitColumns, IsNumberDue, TakesNumber, numbers_of};
 
 use crate::columns::Column::{self, Continuity, Entry, Location};
 use crate::columns::Table::{Curve2s, Curves, Meshes, Polygons, PolygonsOn, Surfaces};
@@ -70,7 +65,7 @@ pub struct ColumnsDue {
 impl ColumnsDue {
     /// None was taken yet.
     pub fn new() -> ColumnsDue
-        ensures left { (b : HeadBounds) (cs : List Column) (ts : List Token) → columns_left b cs result ts ≡ columns_at b cs ts }
+        ensures left { AllAreLeft result }
         ensures len { result.len ≡ 0 }
         ensures numbers { numbers_of result ≡ [] }
     {
@@ -88,7 +83,7 @@ impl ColumnsDue {
         t: &Token,
     ) -> Result<(), ReadStop>
         requires { IsNumberDue columns.now self.old }
-        ensures step { StepsOn (columns_left bounds.now columns.now self.old) t.now (columns_left bounds.now columns.now self.new) result }
+        ensures step { TakesNumber bounds.now columns.now self.old t.now self.new result }
         ensures len { OnOk result (self.new.len ≡ self.old.len + 1) }
         ensures fit { OnOk result (FitColumns columns.now (numbers_of self.new)) }
     {

@@ -1,9 +1,10 @@
 //! The kind, the flags or the continuity word that is due.
 ghost use Rattle.std.specs.Prelude.{◌≡◌, ◌<◌, IfOk};
 ghost use Rattle.std.specs.List.{list_all};
+ghost use Rattle.brep_tokens.specs.Bytes.{is_flag};
 ghost use Rattle.entry_readers.specs.Reading.{ranged_at};
 ghost use Rattle.entry_readers.specs.Takes.{Answers};
-ghost use Rattle.tshape_data.specs.Flags.{flags_of, is_flag};
+ghost use Rattle.tshape_data.specs.Flags.{flags_of};
 ghost use Rattle.tshape_data.specs.HeadReading.{flags_at, kind_at};
 ghost use Rattle.tshape_data.specs.ColumnsLeft.{FitsColumn};
 ghost use Rattle.tshape_data.specs.RepReading.{column_at, continuity_at, size_of};

@@ -1,8 +1,7 @@
 //! The data of an edge. Each method is stated at its own stage.
-ghost use Rattle.std.specs.Prelude.{◌≡◌, ◌<◌};
-ghost use Rattle.entry_readers.specs.Takes.{Takes};
+ghost use Rattle.std.specs.Prelude.{◌<◌};
 ghost use Rattle.tshape_data.specs.EdgesLeft.{IsWaiting as EdgesWait};
-ghost use Rattle.tshape_data.specs.HeadLeft.{IsDone, IsWaiting, at_stage, head_left};
+ghost use Rattle.tshape_data.specs.HeadLeft.{TakesAt};
 ghost use Rattle.tshape_data.specs.declared.stage.Stage.TheVariants as stages;
 
 use crate::edge_reps_reader::EdgeRepsReader;
@@ -14,7 +13,7 @@ use entry_readers::{DecimalsDue, flag_due};
 impl HeadReader {
     /// The tolerance of an edge.
     pub(crate) fn take_edge_tolerance(&mut self, t: &Token) -> Result<Progress, ReadStop>
-        ensures { Takes (at_stage stages.Tolerance self.old) t.now (head_left self.new) (IsWaiting self.new) (IsDone self.new) result }
+        ensures { TakesAt stages.Tolerance self.old t.now self.new result }
     {
         match tolerance_due(self.alloc, t) {
             Err(e) => Err(e),
@@ -27,7 +26,7 @@ impl HeadReader {
     }
 
     pub(crate) fn take_same_parameter(&mut self, t: &Token) -> Result<Progress, ReadStop>
-        ensures { Takes (at_stage stages.SameParameter self.old) t.now (head_left self.new) (IsWaiting self.new) (IsDone self.new) result }
+        ensures { TakesAt stages.SameParameter self.old t.now self.new result }
     {
         match flag_due(t) {
             Err(f) => Err(ReadStop::Fault(f)),
@@ -43,7 +42,7 @@ impl HeadReader {
         t: &Token,
         same_parameter: bool,
     ) -> Result<Progress, ReadStop>
-        ensures { Takes (at_stage (stages.SameRange same_parameter) self.old) t.now (head_left self.new) (IsWaiting self.new) (IsDone self.new) result }
+        ensures { TakesAt (stages.SameRange same_parameter) self.old t.now self.new result }
     {
         match flag_due(t) {
             Err(f) => Err(ReadStop::Fault(f)),
@@ -63,7 +62,7 @@ impl HeadReader {
         same_parameter: bool,
         same_range: bool,
     ) -> Result<Progress, ReadStop>
-        ensures { Takes (at_stage (stages.Degenerated same_parameter same_range) self.old) t.now (head_left self.new) (IsWaiting self.new) (IsDone self.new) result }
+        ensures { TakesAt (stages.Degenerated same_parameter same_range) self.old t.now self.new result }
     {
         match flag_due(t) {
             Err(f) => Err(ReadStop::Fault(f)),
@@ -93,7 +92,7 @@ impl HeadReader {
         flags: EdgeFlags,
     ) -> Result<Progress, ReadStop>
         requires { EdgesWait self.old.edges }
-        ensures { Takes (at_stage (stages.EdgeReps flags) self.old) t.now (head_left self.new) (IsWaiting self.new) (IsDone self.new) result }
+        ensures { TakesAt (stages.EdgeReps flags) self.old t.now self.new result }
     {
         match self.edges.take(t) {
             Err(e) => Err(e),

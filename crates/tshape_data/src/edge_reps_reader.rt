@@ -1,14 +1,13 @@
 //! The reader of the representations of an edge.
-ghost use Rattle.std.specs.Prelude.{◌≡◌, ◌<◌, Err, IfOk, List, Ok, OnOk, [], ◌∷◌, ◌++◌};
+ghost use Rattle.std.specs.Prelude.{◌≡◌, ◌<◌, Err, IfOk, List, Ok, OnOk, []};
 ghost use Rattle.entry_readers.specs.Reading.{more};
-ghost use Rattle.entry_readers.specs.Takes.{StepsOn, Takes};
+ghost use Rattle.entry_readers.specs.Takes.{StepsOn};
 ghost use Rattle.brep_tokens.specs.declared.fault.Progress.TheVariants as progress;
 ghost use Rattle.brep_tokens.specs.declared.text.Token.{Token};
 ghost use Rattle.tshape_data.specs.Columns.{edge_columns as columns_of};
 ghost use Rattle.tshape_data.specs.ColumnsLeft.{HasNumbers, IsNumberDue};
-ghost use Rattle.tshape_data.specs.EdgesLeft.{IsDone, IsStepped, IsWaiting, at_stage, edge_then, edges_left};
+ghost use Rattle.tshape_data.specs.EdgesLeft.{IsStepped, IsWaiting, SettlesFrom, StepsAt, TakesEdges, at_stage, edge_then, edges_left};
 ghost use Rattle.tshape_data.specs.RepReading.{edge_reps_at};
-ghost use Rattle.tshape_data.specs.RepsLeft.{Settles};
 ghost use Rattle.tshape_data.specs.declared.edge_reps_reader.EdgeStage.TheVariants as stages;
 
 use crate::columns_due::{ColumnsDue, edge_columns};
@@ -100,7 +99,7 @@ impl EdgeRepsReader {
     /// A number of a representation of this form.
     fn take_number(&mut self, t: &Token, form: EdgeForm) -> Result<(), ReadStop>
         requires { IsNumberDue (columns_of form) self.old.columns }
-        ensures step { StepsOn (at_stage (stages.Numbers form) self.old) t.now (at_stage (stages.Numbers form) self.new) result }
+        ensures step { StepsAt (stages.Numbers form) self.old t.now self.new result }
         ensures stage { self.new.stage ≡ self.old.stage }
         ensures stepped { OnOk result (IsStepped (stages.Numbers form) self.new) }
     {
@@ -111,7 +110,7 @@ impl EdgeRepsReader {
     fn take_text(&mut self, t: &Token, form: EdgeForm) -> Result<(), ReadStop>
         requires numbers { HasNumbers (columns_of form) self.old.columns }
         requires due { 0 < self.old.texts.due }
-        ensures step { StepsOn (at_stage (stages.Texts form) self.old) t.now (at_stage (stages.Texts form) self.new) result }
+        ensures step { StepsAt (stages.Texts form) self.old t.now self.new result }
         ensures stage { self.new.stage ≡ self.old.stage }
         ensures stepped { OnOk result (IsStepped (stages.Texts form) self.new) }
     {
@@ -135,7 +134,7 @@ impl EdgeRepsReader {
     /// Goes on behind the decimals of a representation where none is due.
     fn past_texts(&mut self, form: EdgeForm) -> Result<(), AllocError>
         requires { HasNumbers (columns_of form) self.old.columns }
-        ensures { OnOk result (Settles (at_stage (stages.Texts form) self.old) (edges_left self.new) (IsWaiting self.new) (IsDone self.new) progress.More) }
+        ensures { OnOk result (SettlesFrom (stages.Texts form) self.old self.new progress.More) }
     {
         if self.texts.due > 0 {
             self.stage = EdgeStage::Texts { form };
@@ -150,7 +149,7 @@ impl EdgeRepsReader {
     /// Goes on behind the numbers of a representation.
     fn past_numbers(&mut self, form: EdgeForm) -> Result<(), AllocError>
         requires { HasNumbers (columns_of form) self.old.columns }
-        ensures { OnOk result (Settles (at_stage (stages.Numbers form) self.old) (edges_left self.new) (IsWaiting self.new) (IsDone self.new) progress.More) }
+        ensures { OnOk result (SettlesFrom (stages.Numbers form) self.old self.new progress.More) }
     {
         self.texts = DecimalsDue::new(self.alloc, edge_texts(self.version, form));
         self.past_texts(form)
@@ -159,7 +158,7 @@ impl EdgeRepsReader {
     /// Goes on to where a token is due, or the end.
     fn settle(&mut self) -> Result<Progress, AllocError>
         requires { IsStepped self.old.stage self.old }
-        ensures { IfOk result (λ p. Settles (edges_left self.old) (edges_left self.new) (IsWaiting self.new) (IsDone self.new) p) }
+        ensures { IfOk result (SettlesFrom self.old.stage self.old self.new) }
     {
         match self.stage {
             EdgeStage::Form => Ok(Progress::More),
@@ -185,7 +184,7 @@ impl EdgeRepsReader {
     #[tactic(auto, using(crate::proofs::RepsOpen::edges_open))]
     pub fn take(&mut self, t: &Token) -> Result<Progress, ReadStop>
         requires { IsWaiting self.old }
-        ensures { Takes (edges_left self.old) t.now (edges_left self.new) (IsWaiting self.new) (IsDone self.new) result }
+        ensures { TakesEdges self.old t.now self.new result }
     {
         match self.step(t) {
             Err(e) => Err(e),

@@ -1,7 +1,5 @@
 //! The data of a face. Each method is stated at its own stage.
-ghost use Rattle.std.specs.Prelude.{◌≡◌};
-ghost use Rattle.entry_readers.specs.Takes.{Takes};
-ghost use Rattle.tshape_data.specs.HeadLeft.{IsDone, IsWaiting, at_stage, head_left};
+ghost use Rattle.tshape_data.specs.HeadLeft.{TakesAt};
 ghost use Rattle.tshape_data.specs.declared.stage.Stage.TheVariants as stages;
 
 use crate::due::index_due;
@@ -13,7 +11,7 @@ use entry_readers::{DecimalsDue, flag_due};
 impl HeadReader {
     /// Whether its surface bounds the face.
     pub(crate) fn take_natural(&mut self, t: &Token) -> Result<Progress, ReadStop>
-        ensures { Takes (at_stage stages.Natural self.old) t.now (head_left self.new) (IsWaiting self.new) (IsDone self.new) result }
+        ensures { TakesAt stages.Natural self.old t.now self.new result }
     {
         match flag_due(t) {
             Err(f) => Err(ReadStop::Fault(f)),
@@ -30,7 +28,7 @@ impl HeadReader {
         t: &Token,
         natural: bool,
     ) -> Result<Progress, ReadStop>
-        ensures { Takes (at_stage (stages.FaceTolerance natural) self.old) t.now (head_left self.new) (IsWaiting self.new) (IsDone self.new) result }
+        ensures { TakesAt (stages.FaceTolerance natural) self.old t.now self.new result }
     {
         match tolerance_due(self.alloc, t) {
             Err(e) => Err(e),
@@ -43,7 +41,7 @@ impl HeadReader {
     }
 
     pub(crate) fn take_surface(&mut self, t: &Token, natural: bool) -> Result<Progress, ReadStop>
-        ensures { Takes (at_stage (stages.Surface natural) self.old) t.now (head_left self.new) (IsWaiting self.new) (IsDone self.new) result }
+        ensures { TakesAt (stages.Surface natural) self.old t.now self.new result }
     {
         match index_due(0, self.bounds.surfaces, t) {
             Err(f) => Err(ReadStop::Fault(f)),
@@ -60,7 +58,7 @@ impl HeadReader {
         natural: bool,
         surface: u32,
     ) -> Result<Progress, ReadStop>
-        ensures { Takes (at_stage (stages.Location natural surface) self.old) t.now (head_left self.new) (IsWaiting self.new) (IsDone self.new) result }
+        ensures { TakesAt (stages.Location natural surface) self.old t.now self.new result }
     {
         match index_due(0, self.bounds.locations, t) {
             Err(f) => Err(ReadStop::Fault(f)),
@@ -79,7 +77,7 @@ impl HeadReader {
 
     /// `2` before a triangulation, or the flags.
     pub(crate) fn take_mesh(&mut self, t: &Token, support: Support) -> Result<Progress, ReadStop>
-        ensures { Takes (at_stage (stages.Mesh support) self.old) t.now (head_left self.new) (IsWaiting self.new) (IsDone self.new) result }
+        ensures { TakesAt (stages.Mesh support) self.old t.now self.new result }
     {
         if t.bytes() == b"2".as_slice() {
             self.stage = Stage::MeshNumber { support };
@@ -99,7 +97,7 @@ impl HeadReader {
         t: &Token,
         support: Support,
     ) -> Result<Progress, ReadStop>
-        ensures { Takes (at_stage (stages.MeshNumber support) self.old) t.now (head_left self.new) (IsWaiting self.new) (IsDone self.new) result }
+        ensures { TakesAt (stages.MeshNumber support) self.old t.now self.new result }
     {
         match index_due(1, self.bounds.meshes, t) {
             Err(f) => Err(ReadStop::Fault(f)),

@@ -1,14 +1,13 @@
 //! The reader of the representations of a vertex.
 ghost use Rattle.std.specs.Prelude.{◌≡◌, ◌<◌, Err, IfOk, List, OnOk, []};
 ghost use Rattle.entry_readers.specs.Reading.{more};
-ghost use Rattle.entry_readers.specs.Takes.{StepsOn, Takes};
+ghost use Rattle.entry_readers.specs.Takes.{StepsOn};
 ghost use Rattle.brep_tokens.specs.declared.fault.Progress.TheVariants as progress;
 ghost use Rattle.brep_tokens.specs.declared.text.Token.{Token};
 ghost use Rattle.tshape_data.specs.Columns.{point_columns as columns_of};
 ghost use Rattle.tshape_data.specs.ColumnsLeft.{HasNumbers, IsNumberDue};
-ghost use Rattle.tshape_data.specs.PointsLeft.{IsDone, IsStepped, IsWaiting, at_stage, point_then, points_left};
+ghost use Rattle.tshape_data.specs.PointsLeft.{IsStepped, IsWaiting, SettlesFrom, StepsAt, TakesPoints, at_stage, point_then, points_left};
 ghost use Rattle.tshape_data.specs.RepReading.{points_at};
-ghost use Rattle.tshape_data.specs.RepsLeft.{Settles};
 ghost use Rattle.tshape_data.specs.declared.point_reps_reader.PointStage.TheVariants as stages;
 
 use crate::columns_due::{ColumnsDue, point_columns};
@@ -125,7 +124,7 @@ impl PointRepsReader {
     /// A second parameter.
     fn take_text(&mut self, t: &Token, form: PointForm) -> Result<(), ReadStop>
         requires { 0 < self.old.texts.due }
-        ensures step { StepsOn (at_stage (stages.Texts form) self.old) t.now (at_stage (stages.Texts form) self.new) result }
+        ensures step { StepsAt (stages.Texts form) self.old t.now self.new result }
         ensures stage { self.new.stage ≡ self.old.stage }
     {
         self.texts.take(t)
@@ -134,7 +133,7 @@ impl PointRepsReader {
     /// A number of a representation of this form.
     fn take_number(&mut self, t: &Token, form: PointForm) -> Result<(), ReadStop>
         requires { IsNumberDue (columns_of form) self.old.columns }
-        ensures step { StepsOn (at_stage (stages.Numbers form) self.old) t.now (at_stage (stages.Numbers form) self.new) result }
+        ensures step { StepsAt (stages.Numbers form) self.old t.now self.new result }
         ensures stage { self.new.stage ≡ self.old.stage }
         ensures stepped { OnOk result (IsStepped (stages.Numbers form) self.new) }
     {
@@ -158,7 +157,7 @@ impl PointRepsReader {
 
     /// Goes on behind the parameters of a representation where none is due.
     fn past_texts(&mut self, form: PointForm)
-        ensures { Settles (at_stage (stages.Texts form) self.old) (points_left self.new) (IsWaiting self.new) (IsDone self.new) progress.More }
+        ensures { SettlesFrom (stages.Texts form) self.old self.new progress.More }
     {
         if self.texts.due > 0 {
             self.stage = PointStage::Texts { form };
@@ -171,7 +170,7 @@ impl PointRepsReader {
     /// Goes on behind the numbers of a representation.
     fn past_numbers(&mut self, form: PointForm) -> Result<(), AllocError>
         requires { HasNumbers (columns_of form) self.old.columns }
-        ensures { OnOk result (Settles (at_stage (stages.Numbers form) self.old) (points_left self.new) (IsWaiting self.new) (IsDone self.new) progress.More) }
+        ensures { OnOk result (SettlesFrom (stages.Numbers form) self.old self.new progress.More) }
     {
         let taken = mem::replace(&mut self.texts, DecimalsDue::new(self.alloc, 0));
         self.reps.push(point_rep(form, &self.columns, taken.texts))?;
@@ -182,7 +181,7 @@ impl PointRepsReader {
     /// Goes on to where a token is due, or the end.
     fn settle(&mut self) -> Result<Progress, AllocError>
         requires { IsStepped self.old.stage self.old }
-        ensures { IfOk result (λ p. Settles (points_left self.old) (points_left self.new) (IsWaiting self.new) (IsDone self.new) p) }
+        ensures { IfOk result (SettlesFrom self.old.stage self.old self.new) }
     {
         match self.stage {
             PointStage::Param => Ok(Progress::More),
@@ -209,7 +208,7 @@ impl PointRepsReader {
     #[tactic(auto, using(crate::proofs::RepsOpen::points_open))]
     pub fn take(&mut self, t: &Token) -> Result<Progress, ReadStop>
         requires { IsWaiting self.old }
-        ensures { Takes (points_left self.old) t.now (points_left self.new) (IsWaiting self.new) (IsDone self.new) result }
+        ensures { TakesPoints self.old t.now self.new result }
     {
         match self.step(t) {
             Err(e) => Err(e),

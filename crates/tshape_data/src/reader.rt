@@ -3,8 +3,8 @@ ghost use Rattle.std.specs.Prelude.{◌≡◌, ◌≤◌, ◌⊎◌, Err, List, 
 ghost use Rattle.entry_readers.specs.Reading.{decimals_at, more};
 ghost use Rattle.entry_readers.specs.Takes.{Takes};
 ghost use Rattle.brep_tokens.specs.declared.text.Token.{Token};
-ghost use Rattle.tshape_data.specs.HeadLeft.{AnswersOrStops, IsDone, IsWaiting, at_stage, head_left, kind_of, payload_from, then_flags};
-ghost use Rattle.tshape_data.specs.HeadReading.{head_at, payload_at, room_of};
+ghost use Rattle.tshape_data.specs.HeadLeft.{AnswersOrStops, DataAreLeft, IsDone, IsWaiting, TakesAt, head_left, kind_of, payload_from};
+ghost use Rattle.tshape_data.specs.HeadReading.{head_at, room_of};
 ghost use Rattle.tshape_data.specs.RepReading.{most_reps};
 ghost use Rattle.tshape_data.specs.declared.stage.Stage.TheVariants as stages;
 
@@ -115,7 +115,7 @@ impl HeadReader {
 
     /// The data of a record of this kind are due.
     fn begin(&mut self, kind: Kind)
-        ensures left { (ts : List Token) → head_left self.new ts ≡ then_flags kind (payload_at self.old.bounds self.old.version kind ts) }
+        ensures left { DataAreLeft kind self.old self.new }
         ensures waits { IsWaiting self.new }
         ensures open { head_left self.new [] ≡ Err more }
     {
@@ -136,7 +136,7 @@ impl HeadReader {
 
     /// The name of the kind.
     fn take_kind(&mut self, t: &Token) -> Result<Progress, ReadStop>
-        ensures { Takes (at_stage stages.Kind self.old) t.now (head_left self.new) (IsWaiting self.new) (IsDone self.new) result }
+        ensures { TakesAt stages.Kind self.old t.now self.new result }
     {
         match kind_due(t) {
             Err(f) => Err(ReadStop::Fault(f)),
@@ -149,7 +149,7 @@ impl HeadReader {
 
     /// The seven flags.
     pub(crate) fn take_flags(&mut self, t: &Token, fields: Fields) -> Result<Progress, ReadStop>
-        ensures { Takes (at_stage (stages.Flags fields) self.old) t.now (head_left self.new) (IsWaiting self.new) (IsDone self.new) result }
+        ensures { TakesAt (stages.Flags fields) self.old t.now self.new result }
     {
         match flags_due(t) {
             Err(f) => Err(ReadStop::Fault(f)),

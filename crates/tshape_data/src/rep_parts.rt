@@ -1,6 +1,6 @@
 //! Representations from their numbers and decimals.
-ghost use Rattle.std.specs.Prelude.{◌≡◌};
-ghost use Rattle.tshape_data.specs.Columns.{edge_columns, edge_texts as text_count, point_columns, second_texts as second_count};
+ghost use Rattle.std.specs.Prelude.{◌≡◌, []};
+ghost use Rattle.tshape_data.specs.Columns.{IsPolygonal, edge_columns, edge_texts as text_count, point_columns, second_texts as second_count};
 ghost use Rattle.tshape_data.specs.ColumnsLeft.{HasNumbers, numbers_of};
 ghost use Rattle.tshape_data.specs.Reps.{edge_rep as edge_rep_of, point_rep as point_rep_of};
 
@@ -89,6 +89,20 @@ pub fn edge_rep(form: EdgeForm, columns: &ColumnsDue, texts: Decimals) -> EdgeRe
             second_surface: numbers[3],
             second_location: numbers[4],
         },
+        EdgeForm::Polygon | EdgeForm::PolygonOn | EdgeForm::SeamPolygons => {
+            polygonal_rep(form, columns)
+        }
+    }
+}
+
+/// A polygon, or polygons on a triangulation: without decimals.
+fn polygonal_rep(form: EdgeForm, columns: &ColumnsDue) -> EdgeRep
+    requires polygonal { IsPolygonal form }
+    requires numbers { HasNumbers (edge_columns form) columns.now }
+    ensures { result ≡ edge_rep_of form (numbers_of columns.now) [] }
+{
+    let numbers = columns.numbers;
+    match form {
         EdgeForm::Polygon => EdgeRep::Polygon {
             polygon: numbers[0],
             location: numbers[1],
@@ -104,5 +118,6 @@ pub fn edge_rep(form: EdgeForm, columns: &ColumnsDue, texts: Decimals) -> EdgeRe
             mesh: numbers[2],
             location: numbers[3],
         },
+        _ => unreachable!(),
     }
 }

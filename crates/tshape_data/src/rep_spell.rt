@@ -1,12 +1,11 @@
 //! The tokens of representations.
-ghost use Rattle.std.specs.Prelude.{◌≡◌, ◌∷◌, ◌++◌, [], drop, map, take};
+ghost use Rattle.std.specs.Prelude.{◌≡◌, ◌++◌};
 ghost use Rattle.std.specs.Fmt.{decimal};
 ghost use Rattle.entry_readers.specs.Spelled.{AreShort};
-ghost use Rattle.tshape_data.specs.Columns.{edge_columns, edge_number, edge_texts, p_curve_texts, point_columns, point_number};
-ghost use Rattle.tshape_data.specs.Parts.{column_parts, texts_in};
-ghost use Rattle.tshape_data.specs.Reps.{form_of_edge, form_of_point, numbers_of_edge, numbers_of_point, texts_of_edge, texts_of_point};
-ghost use Rattle.tshape_data.specs.Spelling.{part_text};
-ghost use Rattle.tshape_data.specs.SpellLeft.{CanGiveChunk, chunk_left, word_text, words_of};
+ghost use Rattle.tshape_data.specs.Columns.{HasContinuity, IsPolygonal, p_curve_texts, point_number};
+ghost use Rattle.tshape_data.specs.Parts.{texts_in};
+ghost use Rattle.tshape_data.specs.Reps.{form_of_edge, form_of_point, texts_of_edge, texts_of_point};
+ghost use Rattle.tshape_data.specs.SpellLeft.{CanGiveChunk, chunk_left, edge_number_texts, first_texts, point_number_texts, rest_texts, word_text, words_of};
 
 use crate::chunks::{ChunkSpell, words_alone, words_around};
 use crate::head_words::Word;
@@ -46,7 +45,7 @@ fn point_form(p: &PointRep) -> Word
 
 /// Its other numbers.
 fn point_words(p: &PointRep) -> Words
-    ensures { words_of result ≡ map part_text (column_parts (point_columns (form_of_point p.now)) (numbers_of_point p.now)) }
+    ensures { words_of result ≡ point_number_texts p.now }
 {
     match p {
         PointRep::OnCurve {
@@ -71,7 +70,7 @@ fn point_words(p: &PointRep) -> Words
 /// A representation of a vertex up to the number of its form.
 pub fn point_first<'a>(p: &'a PointRep) -> ChunkSpell<'a>
     requires { AreShort (texts_of_point p.now) }
-    ensures left { chunk_left result ≡ take 1 (texts_of_point p.now) ++ decimal (point_number (form_of_point p.now)) ∷ [] }
+    ensures left { chunk_left result ≡ first_texts p.now }
     ensures can { CanGiveChunk result }
 {
     words_around(
@@ -84,7 +83,7 @@ pub fn point_first<'a>(p: &'a PointRep) -> ChunkSpell<'a>
 /// What stands behind it.
 pub fn point_rest<'a>(p: &'a PointRep) -> ChunkSpell<'a>
     requires { AreShort (texts_of_point p.now) }
-    ensures left { chunk_left result ≡ drop 1 (texts_of_point p.now) ++ map part_text (column_parts (point_columns (form_of_point p.now)) (numbers_of_point p.now)) }
+    ensures left { chunk_left result ≡ rest_texts p.now }
     ensures can { CanGiveChunk result }
 {
     let texts = point_texts(p);
@@ -97,7 +96,7 @@ pub fn point_rest<'a>(p: &'a PointRep) -> ChunkSpell<'a>
 
 /// The number of the form of a representation of an edge, and its other numbers.
 fn edge_words(r: &EdgeRep) -> Words
-    ensures { words_of result ≡ decimal (edge_number (form_of_edge r.now)) ∷ map part_text (column_parts (edge_columns (form_of_edge r.now)) (numbers_of_edge r.now)) }
+    ensures { words_of result ≡ edge_number_texts r.now }
 {
     match r {
         EdgeRep::Curve {
@@ -116,6 +115,19 @@ fn edge_words(r: &EdgeRep) -> Words
             number(*surface),
             number(*location),
         ),
+        EdgeRep::Seam { .. } | EdgeRep::Joint { .. } => words_with_continuity(r),
+        EdgeRep::Polygon { .. } | EdgeRep::PolygonOn { .. } | EdgeRep::SeamPolygons { .. } => {
+            polygon_words(r)
+        }
+    }
+}
+
+/// The same of a representation with a continuity.
+fn words_with_continuity(r: &EdgeRep) -> Words
+    requires { HasContinuity (form_of_edge r.now) }
+    ensures { words_of result ≡ edge_number_texts r.now }
+{
+    match r {
         EdgeRep::Seam {
             first_curve2,
             second_curve2,
@@ -145,6 +157,16 @@ fn edge_words(r: &EdgeRep) -> Words
             number(*second_surface),
             number(*second_location),
         ),
+        _ => unreachable!(),
+    }
+}
+
+/// The same of a polygon, or of polygons on a triangulation.
+fn polygon_words(r: &EdgeRep) -> Words
+    requires { IsPolygonal (form_of_edge r.now) }
+    ensures { words_of result ≡ edge_number_texts r.now }
+{
+    match r {
         EdgeRep::Polygon { polygon, location } => Words::three(
             Word::Number(5),
             number(*polygon),
@@ -172,6 +194,7 @@ fn edge_words(r: &EdgeRep) -> Words
             number(*mesh),
             number(*location),
         ),
+        _ => unreachable!(),
     }
 }
 
@@ -185,8 +208,7 @@ fn p_curve_count(version: u8) -> usize
 /// A representation of an edge, whose decimals are spelled as many as a version has.
 pub fn edge_rep<'a>(r: &'a EdgeRep, version: u8) -> ChunkSpell<'a>
     requires { AreShort (texts_of_edge r.now) }
-    ensures left { chunk_left result ≡ decimal (edge_number (form_of_edge r.now))
-        ∷ (map part_text (column_parts (edge_columns (form_of_edge r.now)) (numbers_of_edge r.now)) ++ texts_in version r.now) }
+    ensures left { chunk_left result ≡ edge_number_texts r.now ++ texts_in version r.now }
     ensures can { CanGiveChunk result }
 {
     let words = edge_words(r);

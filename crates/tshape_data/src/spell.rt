@@ -1,11 +1,9 @@
 //! The tokens of a head, one after another.
-ghost use Rattle.std.specs.Prelude.{◌≡◌, ◌∷◌, ◌++◌, IfNone, IfSome, [], map};
-ghost use Rattle.std.specs.Fmt.{decimal};
+ghost use Rattle.std.specs.Prelude.{◌≡◌, ◌++◌, IfNone, IfSome, []};
 ghost use Rattle.std.specs.List.{AllByRecursion};
-ghost use Rattle.tshape_data.specs.Parts.{edge_flags, mesh_parts};
+ghost use Rattle.tshape_data.specs.Parts.{edge_flags};
 ghost use Rattle.tshape_data.specs.Short.{IsShortEdgeRep, IsShortPoint};
-ghost use Rattle.tshape_data.specs.SpellLeft.{CanGiveChunk, CanGiveHead, CanGiveStage, IsBegun, chunk_left, edges_left, points_left, range_left, stage_left, tokens_left, words_of};
-ghost use Rattle.tshape_data.specs.Spelling.{part_text};
+ghost use Rattle.tshape_data.specs.SpellLeft.{CanGiveChunk, CanGiveHead, CanGiveStage, IsBegun, chunk_left, edges_left, face_number_texts, points_left, range_left, stage_left, tokens_left, words_of};
 
 use crate::chunks::{ChunkSpell, words_alone, words_around};
 use crate::head::{EdgeData, FaceData, Flags, Head, Payload};
@@ -119,7 +117,7 @@ fn after<'a>(stage: Stage<'a>, version: u8, flags: Flags) -> Option<HeadSpell<'a
 
 /// The words of a face behind its tolerance.
 fn face_words(d: &FaceData) -> Words
-    ensures { words_of result ≡ decimal d.now.surface ∷ decimal d.now.location ∷ map part_text (mesh_parts d.now.mesh) }
+    ensures { words_of result ≡ face_number_texts d.now }
 {
     match d.mesh {
         None => Words::two(number(d.surface), number(d.location)),

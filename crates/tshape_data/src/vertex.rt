@@ -1,7 +1,6 @@
 //! The data of a vertex. Each method is stated at its own stage.
-ghost use Rattle.std.specs.Prelude.{◌≡◌, ◌<◌};
-ghost use Rattle.entry_readers.specs.Takes.{Takes};
-ghost use Rattle.tshape_data.specs.HeadLeft.{IsDone, IsWaiting, at_stage, head_left};
+ghost use Rattle.std.specs.Prelude.{◌<◌};
+ghost use Rattle.tshape_data.specs.HeadLeft.{TakesAt};
 ghost use Rattle.tshape_data.specs.PointsLeft.{IsWaiting as PointsWait};
 ghost use Rattle.tshape_data.specs.declared.stage.Stage.TheVariants as stages;
 
@@ -14,7 +13,7 @@ impl HeadReader {
     /// The tolerance or a coordinate of a vertex.
     pub(crate) fn take_vertex_text(&mut self, t: &Token) -> Result<Progress, ReadStop>
         requires { 0 < self.old.texts.due }
-        ensures { Takes (at_stage stages.VertexTexts self.old) t.now (head_left self.new) (IsWaiting self.new) (IsDone self.new) result }
+        ensures { TakesAt stages.VertexTexts self.old t.now self.new result }
     {
         match self.texts.take(t) {
             Err(e) => Err(e),
@@ -34,7 +33,7 @@ impl HeadReader {
     /// A token of a vertex's representations.
     pub(crate) fn take_point(&mut self, t: &Token) -> Result<Progress, ReadStop>
         requires { PointsWait self.old.points }
-        ensures { Takes (at_stage stages.Points self.old) t.now (head_left self.new) (IsWaiting self.new) (IsDone self.new) result }
+        ensures { TakesAt stages.Points self.old t.now self.new result }
     {
         match self.points.take(t) {
             Err(e) => Err(e),

@@ -1,5 +1,5 @@
 //! Lists of at most six words.
-ghost use Rattle.std.specs.Prelude.{◌≡◌, ◌∷◌, []};
+ghost use Rattle.std.specs.Prelude.{◌≡◌, ◌∷◌, [], map};
 ghost use Rattle.tshape_data.specs.SpellLeft.{word_text, words_left, words_of};
 
 use crate::head_words::{Word, text_of};
@@ -28,7 +28,7 @@ impl Words {
 
     /// One word.
     pub fn one(a: Word) -> Words
-        ensures { words_of result ≡ word_text a ∷ [] }
+        ensures { words_of result ≡ map word_text (a ∷ []) }
     {
         Words {
             words: [a, NO_WORD, NO_WORD, NO_WORD, NO_WORD, NO_WORD],
@@ -38,7 +38,7 @@ impl Words {
 
     /// Two words.
     pub fn two(a: Word, b: Word) -> Words
-        ensures { words_of result ≡ word_text a ∷ word_text b ∷ [] }
+        ensures { words_of result ≡ map word_text (a ∷ b ∷ []) }
     {
         Words {
             words: [a, b, NO_WORD, NO_WORD, NO_WORD, NO_WORD],
@@ -48,7 +48,7 @@ impl Words {
 
     /// Three words.
     pub fn three(a: Word, b: Word, c: Word) -> Words
-        ensures { words_of result ≡ word_text a ∷ word_text b ∷ word_text c ∷ [] }
+        ensures { words_of result ≡ map word_text (a ∷ b ∷ c ∷ []) }
     {
         Words {
             words: [a, b, c, NO_WORD, NO_WORD, NO_WORD],
@@ -58,7 +58,7 @@ impl Words {
 
     /// Four words.
     pub fn four(a: Word, b: Word, c: Word, d: Word) -> Words
-        ensures { words_of result ≡ word_text a ∷ word_text b ∷ word_text c ∷ word_text d ∷ [] }
+        ensures { words_of result ≡ map word_text (a ∷ b ∷ c ∷ d ∷ []) }
     {
         Words {
             words: [a, b, c, d, NO_WORD, NO_WORD],
@@ -68,7 +68,7 @@ impl Words {
 
     /// Five words.
     pub fn five(a: Word, b: Word, c: Word, d: Word, e: Word) -> Words
-        ensures { words_of result ≡ word_text a ∷ word_text b ∷ word_text c ∷ word_text d ∷ word_text e ∷ [] }
+        ensures { words_of result ≡ map word_text (a ∷ b ∷ c ∷ d ∷ e ∷ []) }
     {
         Words {
             words: [a, b, c, d, e, NO_WORD],
@@ -78,7 +78,7 @@ impl Words {
 
     /// Six words.
     pub fn six(a: Word, b: Word, c: Word, d: Word, e: Word, f: Word) -> Words
-        ensures { words_of result ≡ word_text a ∷ word_text b ∷ word_text c ∷ word_text d ∷ word_text e ∷ word_text f ∷ [] }
+        ensures { words_of result ≡ map word_text (a ∷ b ∷ c ∷ d ∷ e ∷ f ∷ []) }
     {
         Words {
             words: [a, b, c, d, e, f],

@@ -1,6 +1,6 @@
 use Rattle.std.proofs.Common.{◌≡◌, drop}
 use Rattle.std.specs.List.{list_all}
-use Rattle.tshape_data.specs.Flags.{is_flag}
+use Rattle.brep_tokens.specs.Bytes.{is_flag}
 use Rattle.tshape_data.proofs.due.all_flags.Given as goal
 
 abbrev pub invariant-loop-b : goal.invariant-loop-b
