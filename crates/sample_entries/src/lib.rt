@@ -1,8 +1,8 @@
 //! Entries of tables that are read from text, and what of them fits tokens, for the tests of tables.
 #![tactic(auto)]
 
-mod entries;
-mod texts;
+mod reading;
+mod tokens;
 
-pub use entries::{entries, entry};
-pub use texts::{append, short, texts};
+pub use reading::{entries, entry};
+pub use tokens::{append, short, texts};

@@ -1,6 +1,6 @@
 -- A token is due at each word.
 use Rattle.std.proofs.Common.{◌<◌}
-use Rattle.sample_entries.proofs.entries.entries.Given as goal
+use Rattle.sample_entries.proofs.reading.entries.Given as goal
 
 abbrev pub invariant-loop-word : goal.invariant-loop-word
 invariant-loop-word g l =

@@ -1,5 +1,5 @@
 -- A token is due at each word.
-use Rattle.sample_entries.proofs.entries.entry.Given as goal
+use Rattle.sample_entries.proofs.reading.entry.Given as goal
 
 abbrev pub invariant-loop-word : goal.invariant-loop-word
 invariant-loop-word g l =
