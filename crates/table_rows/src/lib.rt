@@ -1,8 +1,6 @@
-//! Tests of the tables of a file: locations, curves, surfaces, meshes, and the data of records.
+//! Tests of the tables of locations and meshes, and of the data of records.
 #![tactic(auto)]
 
-#[cfg(test)]
-mod curves;
 #[cfg(test)]
 mod heads;
 #[cfg(test)]
@@ -11,5 +9,3 @@ mod locations;
 mod meshes;
 #[cfg(test)]
 mod spelled_heads;
-#[cfg(test)]
-mod surfaces;

@@ -1,64 +1,13 @@
 //! Texts that were written by hand from the format, with the number of tokens counted from it.
 
-use crate::curves::short;
-use brep_tokens::{Decimals, Numbers, Progress, ReadStop, Token, TokenText};
-use entry_readers::{EntryReader, Section};
-use lists::ListOf;
+use brep_tokens::{Decimals, Numbers};
 use mesh_tables::{
     Mesh, MeshReader, Meshes, Polygon3, Polygon3Reader, PolygonOnMesh, PolygonOnMeshReader,
     Polygons, PolygonsOn, laws,
 };
+use sample_entries::{append, entries, short};
 use std::alloc::Global;
 use std::test::Fail;
-
-/// So many entries and the number of their tokens, or why they are not read. The offset of each token is its place.
-fn entries<R: EntryReader>(
-    alloc: Global,
-    due: u64,
-    text: &str,
-) -> Result<Result<(ListOf<R::Entry>, u64), String>, Fail> {
-    if due == 0 {
-        return Ok(Err(String::from_str(alloc, "none due")?));
-    }
-    let mut section = Section::<R>::new(alloc, due);
-    let mut offset = 0u64;
-    for word in text.split_whitespace() {
-        if word.len() > 128 {
-            return Ok(Err(String::from_str(alloc, "too long")?));
-        }
-        let token = Token {
-            offset,
-            text: TokenText::of(word.as_bytes()),
-        };
-        offset = offset.saturating_add(1);
-        match section.take(&token) {
-            Ok(Progress::More) => {}
-            Ok(Progress::Whole) => {
-                return Ok(Ok((ListOf::from_vec(section.done()), offset)));
-            }
-            Err(ReadStop::NoMemory) => {
-                return Ok(Err(String::from_str(alloc, "no memory")?));
-            }
-            Err(ReadStop::Fault(fault)) => {
-                let why = format!(in alloc;
-                    "{:?} {} {} {}",
-                    fault.code, fault.offset, fault.value, fault.limit
-                )?;
-                return Ok(Err(why));
-            }
-        }
-    }
-    Ok(Err(String::from_str(alloc, "more")?))
-}
-
-/// Appends a token.
-fn append(said: &mut String, text: &TokenText) -> Result<(), Fail> {
-    if !said.is_empty() {
-        said.push_str(" ")?;
-    }
-    said.push_str(str::from_utf8(text.bytes()).unwrap_or("?"))?;
-    Ok(())
-}
 
 /// The number of tokens, and the tokens that the polygons are spelled by; or why they are not read.
 fn polygons(alloc: Global, due: u64, text: &str) -> Result<String, Fail> {

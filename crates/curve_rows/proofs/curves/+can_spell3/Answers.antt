@@ -2,8 +2,8 @@
 use Rattle.std.proofs.Common.{refl, sym, subst}
 use Rattle.curve_tables.specs.Shapes.{CanSpell3}
 use Rattle.curve_tables.specs.declared.parts.Wrap.TheVariants.{Trimmed, Offset}
-use Rattle.curve_tables.proofs.Equations3.{can_spell_around}
-use Rattle.table_rows.proofs.curves.+can_spell3.Goals as goal
+use Rattle.curve_rows.proofs.Around3.{can_spell_around}
+use Rattle.curve_rows.proofs.curves.+can_spell3.Goals as goal
 
 pub returns-then-texts-2 : goal.returns-then-texts-2
 returns-then-texts-2 t c shown =

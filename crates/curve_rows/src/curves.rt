@@ -1,74 +1,12 @@
 //! Texts that were written by hand from the format, with the number of tokens counted from it.
 ghost use Rattle.std.specs.Prelude.{◌≤◌, IsTrue};
-ghost use Rattle.entry_readers.specs.Spelled.{AreShort};
-ghost use Rattle.curve_tables.specs.Shapes.{AreTexts, CanSpell2, CanSpell3};
+ghost use Rattle.curve_tables.specs.Shapes.{CanSpell2, CanSpell3};
 
-use brep_tokens::{Decimals, Numbers, Progress, ReadStop, Token, TokenText};
+use brep_tokens::{Decimals, Numbers};
 use curve_tables::{Curve2, Curve2Reader, Curve2s, Curve3, Curve3Reader, Curve3s, laws};
-use entry_readers::EntryReader;
+use sample_entries::{append, entry, texts};
 use std::alloc::Global;
 use std::test::Fail;
-
-/// The entry and the number of its tokens, or why it is not read. The offset of each token is its place.
-fn entry<R: EntryReader>(
-    alloc: Global,
-    reader: R,
-    text: &str,
-) -> Result<Result<(R::Entry, u64), String>, Fail>
-    requires { R.waits reader }
-{
-    let mut reader = reader;
-    let mut offset = 0u64;
-    for word in text.split_whitespace() {
-        if word.len() > 128 {
-            return Ok(Err(String::from_str(alloc, "too long")?));
-        }
-        let token = Token {
-            offset,
-            text: TokenText::of(word.as_bytes()),
-        };
-        offset = offset.saturating_add(1);
-        match reader.take_token(&token) {
-            Ok(Progress::More) => {}
-            Ok(Progress::Whole) => return Ok(Ok((reader.finish(), offset))),
-            Err(ReadStop::NoMemory) => {
-                return Ok(Err(String::from_str(alloc, "no memory")?));
-            }
-            Err(ReadStop::Fault(fault)) => {
-                let why = format!(in alloc;
-                    "{:?} {} {} {}",
-                    fault.code, fault.offset, fault.value, fault.limit
-                )?;
-                return Ok(Err(why));
-            }
-        }
-    }
-    Ok(Err(String::from_str(alloc, "more")?))
-}
-
-/// Does each fit a token?
-pub(crate) fn short(texts: &Decimals) -> bool
-    ensures { IsTrue result → AreShort texts.now }
-{
-    for at in 0..texts.len() {
-        match texts.get(at) {
-            Some(text) => {
-                if text.len() > 128 {
-                    return false;
-                }
-            }
-            None => return false,
-        }
-    }
-    true
-}
-
-/// Are there so many, and fits each a token?
-pub(crate) fn texts(n: u64, texts: &Decimals) -> bool
-    ensures { IsTrue result → AreTexts n texts.now }
-{
-    texts.len() as u64 == n && short(texts)
-}
 
 /// Can the curve be spelled? Only numbers below a million are asked for.
 fn can_spell2(curve: &Curve2) -> bool
@@ -134,13 +72,6 @@ fn can_spell3(curve: &Curve3) -> bool
         Curve3::Trimmed { texts: all, basis } => texts(2, all) && can_spell3(basis.get()),
         Curve3::Offset { texts: all, basis } => texts(4, all) && can_spell3(basis.get()),
     }
-}
-
-/// Appends a token.
-pub(crate) fn append(said: &mut String, text: &TokenText) -> Result<(), Fail> {
-    said.push_str(" ")?;
-    said.push_str(str::from_utf8(text.bytes()).unwrap_or("?"))?;
-    Ok(())
 }
 
 /// The number of tokens, and the tokens that a 2D curve is spelled by; or why it is not read.

@@ -2,8 +2,8 @@
 use Rattle.std.proofs.Common.{refl, sym, subst}
 use Rattle.surface_tables.specs.Shapes.{CanSpellSurface}
 use Rattle.surface_tables.specs.declared.parts.Wrap.TheVariants.{Trimmed, Offset}
-use Rattle.surface_tables.proofs.Equations.{can_spell_around}
-use Rattle.table_rows.proofs.surfaces.+can_spell.Goals as goal
+use Rattle.surface_rows.proofs.Around.{can_spell_around}
+use Rattle.surface_rows.proofs.surfaces.+can_spell.Goals as goal
 
 pub returns-then-texts-5 : goal.returns-then-texts-5
 returns-then-texts-5 t c shown =

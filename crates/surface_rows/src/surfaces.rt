@@ -3,49 +3,12 @@ ghost use Rattle.std.specs.Prelude.{IsTrue};
 ghost use Rattle.curve_tables.specs.Shapes.{CanSpell3};
 ghost use Rattle.surface_tables.specs.Shapes.{CanSpellSurface};
 
-use crate::curves::{append, texts};
-use brep_tokens::{Decimals, Progress, ReadStop, Token, TokenText};
+use brep_tokens::Decimals;
 use curve_tables::Curve3;
-use entry_readers::Section;
+use sample_entries::{append, entries, texts};
 use std::alloc::Global;
 use std::test::Fail;
 use surface_tables::{Surface, SurfaceReader, Surfaces, laws};
-
-/// So many surfaces and the number of their tokens, or why they are not read. The offset of each token is its place.
-fn entries(alloc: Global, due: u64, text: &str) -> Result<Result<(Surfaces, u64), String>, Fail> {
-    if due == 0 {
-        return Ok(Err(String::from_str(alloc, "none due")?));
-    }
-    let mut section = Section::<SurfaceReader>::new(alloc, due);
-    let mut offset = 0u64;
-    for word in text.split_whitespace() {
-        if word.len() > 128 {
-            return Ok(Err(String::from_str(alloc, "too long")?));
-        }
-        let token = Token {
-            offset,
-            text: TokenText::of(word.as_bytes()),
-        };
-        offset = offset.saturating_add(1);
-        match section.take(&token) {
-            Ok(Progress::More) => {}
-            Ok(Progress::Whole) => {
-                return Ok(Ok((Surfaces::from_vec(section.done()), offset)));
-            }
-            Err(ReadStop::NoMemory) => {
-                return Ok(Err(String::from_str(alloc, "no memory")?));
-            }
-            Err(ReadStop::Fault(fault)) => {
-                let why = format!(in alloc;
-                    "{:?} {} {} {}",
-                    fault.code, fault.offset, fault.value, fault.limit
-                )?;
-                return Ok(Err(why));
-            }
-        }
-    }
-    Ok(Err(String::from_str(alloc, "more")?))
-}
 
 /// Can the curve be spelled? Of plain curves alone it is asked.
 fn can_spell3(curve: &Curve3) -> bool
@@ -125,7 +88,7 @@ fn can_spell(surface: &Surface) -> bool
 
 /// The number of tokens, and the tokens that the surfaces are spelled by; or why they are not read.
 fn surfaces(alloc: Global, due: u64, text: &str) -> Result<String, Fail> {
-    let (surfaces, tokens) = match entries(alloc, due, text)? {
+    let (surfaces, tokens) = match entries::<SurfaceReader>(alloc, due, text)? {
         Ok(read) => read,
         Err(why) => return Ok(why),
     };

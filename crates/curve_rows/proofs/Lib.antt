@@ -1,0 +1,2 @@
+mod Around2
+mod Around3

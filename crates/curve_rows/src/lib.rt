@@ -1,0 +1,5 @@
+//! Tests of the tables of curves.
+#![tactic(auto)]
+
+#[cfg(test)]
+mod curves;

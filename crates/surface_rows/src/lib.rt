@@ -1,0 +1,5 @@
+//! Tests of the tables of surfaces.
+#![tactic(auto)]
+
+#[cfg(test)]
+mod surfaces;
