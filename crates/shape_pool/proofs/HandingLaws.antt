@@ -1,21 +1,22 @@
 -- Handing nodes in, and looking them up.
-use Rattle.std.proofs.Common.{◌≡◌, ◌≤◌, ◌<◌, ◌≢◌, ℕ, suc, List, map, length, All, arith, sym, ◌∙◌, ap, subst, refl, slice_get, slice_index_or, position, Result, Ok, Err, Some, false}
-use Rattle.std.specs.List.{list_any}
+use Rattle.std.proofs.Common.{◌≡◌, ◌≤◌, ◌<◌, ◌≢◌, ℕ, suc, List, map, length, All, arith, sym, ◌∙◌, ap, subst, refl, slice_get, slice_index_or, Result, Ok, Err, Some}
 use Rattle.std.specs.Result.{IfErr, IsErrAnd}
 use Rattle.std.specs.Option.{option_map}
 use Rattle.std.proofs.lemmas.List.{length-map}
-use Rattle.std.proofs.lemmas.Option.{slice_get-map, slice_get-get_or}
+use Rattle.std.proofs.lemmas.Option.{slice_get-map}
 use Rattle.orientation.specs.declared.kind.Kind.{Kind}
 use Rattle.location_words.specs.declared.pair.Pair.{Pair}
 use Rattle.shape_pool.specs.declared.node.UseOf.{UseOf}
 use Rattle.shape_pool.specs.declared.node.NodeUse.{NodeUse}
 use Rattle.shape_pool.specs.declared.held.Held.{Held}
+use Rattle.shape_pool.specs.declared.node.Node.{Node}
 use Rattle.shape_pool.specs.declared.fault.PoolFault.{PoolFault}
 use Rattle.shape_pool.specs.declared.fault.PoolFault.TheVariants.{TooMany, TooDeep, NoMemory}
 use Rattle.shape_pool.specs.Nodes.{by_number, node_id, node_uses, tree_of_node, used_node}
 use Rattle.shape_pool.specs.Rows.{Row, depth_over, greatest, tree_at, uses_at, AllHeld, most_depth, most_nodes}
 use Rattle.shape_pool.specs.Calls.{IsHeldAs, IsRefused}
-use Rattle.shape_pool.specs.Held.{row_of, rows_of, stored_depth, IsIndex, IsNext, IsOver, IsTooDeep, held_eq}
+use Rattle.shape_pool.specs.Held.{row_of, rows_of, stored_depth, HasAlike, HasNone, IsIndex, IsNext, IsOver, IsTooDeep}
+use Rattle.lists.proofs.Places.{at_place}
 use Rattle.shape_pool.proofs.RowLaws.{uses-entry}
 use Rattle.shape_pool.proofs.HeldLaws.{node-tree}
 use Rattle.shape_pool.proofs.IndexLaws.{found-as, missing-as, greatest-rows}
@@ -42,11 +43,11 @@ module _ (held : List Held) (us : List UseOf) (all : AllHeld (rows_of held) us) 
       pub within : depth_over (rows_of held) us ≤ most_depth
       within = subst (λ d. d ≤ most_depth) (over.depth ∙ depth-rows) over.shallow
 
-      pub refused-many : (f : PoolFault) → ((n : ℕ) → f ≡ TooMany n → (list_any (held_eq h) held ≡ false) × (length held ≡ most_nodes) × (n ≡ suc most_nodes)) →
+      pub refused-many : (f : PoolFault) → ((n : ℕ) → f ≡ TooMany n → HasNone held h.node.value × (length held ≡ most_nodes) × (n ≡ suc most_nodes)) →
           ((n : ℕ) → f ≢ TooDeep n) → IsRefused (rows_of held) o us f
       refused-many (TooMany n) many deep =
           let m = many n refl in
-          (within, missing-as held k o us h over.next m.0, length-map held row_of ∙ m.1, m.2)
+          (within, missing-as held k o us h.node.value over.next m.0, length-map held row_of ∙ m.1, m.2)
       refused-many (TooDeep n) many deep = absurd (deep n refl)
       refused-many NoMemory many deep = tt
 
@@ -55,18 +56,17 @@ module _ (held : List Held) (rows : List Row) (v : rows_of held ≡ rows) where
   pub few-held : length rows ≡ length held
   few-held = ap length (sym v) ∙ length-map held row_of
 
-  -- what a slice of the held nodes has at a number
-  pub slice-entry : (items : List Held) → items ≡ held → (i : ℕ) (d : Held) → i < length rows → slice_get held i ≡ Some (slice_index_or items i d)
-  slice-entry items e i d lt =
-      subst (λ (hs : List Held). slice_get held i ≡ Some (slice_index_or hs i d)) (sym e) (slice_get-get_or held i d (let l = few-held in omega (arith, l, lt)))
-
   -- what a look-up of a node finds
-  module _ (k : Kind) (o : ℕ) (us : List UseOf) (h : Held) (next : IsNext held k o us h.node.value) where
-    pub found-node : (i : ℕ) → position (held_eq h) held ≡ Some i → IsHeldAs rows o us i
-    found-node i e = subst (λ rs. IsHeldAs rs o us i) v (found-as held k o us h next i e)
+  module _ (k : Kind) (o : ℕ) (us : List UseOf) (n : Node) (next : IsNext held k o us n) where
+    pub found-node : (i : ℕ) → HasAlike held n i → IsHeldAs rows o us i
+    found-node i a = subst (λ rs. IsHeldAs rs o us i) v (found-as held k o us n next i a)
 
-    pub missing-node : list_any (held_eq h) held ≡ false → (i : ℕ) → IsHeldAs rows o us i → ⊥
-    missing-node e = subst (λ rs. (i : ℕ) → IsHeldAs rs o us i → ⊥) v (missing-as held k o us h next e)
+    pub missing-node : HasNone held n → (i : ℕ) → IsHeldAs rows o us i → ⊥
+    missing-node none = subst (λ rs. (i : ℕ) → IsHeldAs rs o us i → ⊥) v (missing-as held k o us n next none)
+
+  -- the held node at a number
+  pub held-entry : (i : ℕ) → i < length rows → (h : Held) × (slice_get held i ≡ Some h)
+  held-entry i lt = at_place held i (let l = few-held in omega (arith, l, lt))
 
   -- what a node says
   module _ (p : IsIndex held) (i : ℕ) (h : Held) (e : slice_get held i ≡ Some h) where

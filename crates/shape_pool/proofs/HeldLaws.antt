@@ -14,9 +14,9 @@ use Rattle.shape_pool.specs.declared.node.UseOf.{UseOf}
 use Rattle.shape_pool.specs.declared.node.Node.{Node, fold_out-Node}
 use Rattle.shape_pool.specs.declared.node.NodeUse.{NodeUse, out-NodeUse, fold_out-NodeUse, fold-NodeUse}
 use Rattle.shape_pool.specs.declared.held.Held.{Held}
-use Rattle.shape_pool.specs.Nodes.{by_number, node_origin, node_uses, node_id, used_node, use_eq, tree_of_node, tree_step, use_step}
+use Rattle.shape_pool.specs.Nodes.{by_number, node_eq, node_origin, node_uses, node_id, used_node, use_eq, tree_of_node, tree_step, use_step}
 use Rattle.shape_pool.specs.Rows.{use_by, tree_at}
-use Rattle.shape_pool.specs.Held.{held_eq, row_of, IsShared, IsIndex, HaveIds}
+use Rattle.shape_pool.specs.Held.{row_of, IsShared, IsIndex, HaveIds}
 use Rattle.shape_pool.proofs.RowLaws.{AllBefore, tree-row}
 
 same_turn : (a b : Turn) → sign_of a ≡ sign_of b → a ≡ b
@@ -74,12 +74,12 @@ uses_eq-of-same (u ∷ us) (v ∷ vs) e =
     let tail : map by_number us ≡ map by_number vs = cc in
     λ i. use_eq-of-same u v head i && uses_eq-of-same us vs tail i
 
-pub held_eq-tells : (a b : Held) → (held_eq a b ≡ true) ↔ (((row_of a).origin ≡ (row_of b).origin) × ((row_of a).uses ≡ (row_of b).uses))
-held_eq-tells a b =
-    let origins : Bool = nat_eq (node_origin a.node.value) (node_origin b.node.value) in
-    let uses : Bool = pointwise use_eq (node_uses a.node.value) (node_uses b.node.value) in (
-      λ e. (eqb-true (node_origin a.node.value) (node_origin b.node.value) (first_so origins uses e), uses_eq-same (node_uses a.node.value) (node_uses b.node.value) (second_so origins uses e)),
-      λ h i. eq-eqb (node_origin a.node.value) (node_origin b.node.value) h.0 i && uses_eq-of-same (node_uses a.node.value) (node_uses b.node.value) h.1 i,
+pub node_eq-tells : (a b : Node) → (node_eq a b ≡ true) ↔ ((node_origin a ≡ node_origin b) × (map by_number (node_uses a) ≡ map by_number (node_uses b)))
+node_eq-tells a b =
+    let origins : Bool = nat_eq (node_origin a) (node_origin b) in
+    let uses : Bool = pointwise use_eq (node_uses a) (node_uses b) in (
+      λ e. (eqb-true (node_origin a) (node_origin b) (first_so origins uses e), uses_eq-same (node_uses a) (node_uses b) (second_so origins uses e)),
+      λ h i. eq-eqb (node_origin a) (node_origin b) h.0 i && uses_eq-of-same (node_uses a) (node_uses b) h.1 i,
     )
 
 -- ---- trees

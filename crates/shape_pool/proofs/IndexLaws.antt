@@ -1,18 +1,13 @@
 -- Nodes held stay an index when one more goes last, and when the last ones are dropped.
-use Rattle.std.proofs.Common.{◌≡◌, ◌≤◌, ◌<◌, ℕ, zero, suc, List, map, ◌++◌, ◌∷◌, [], All, length, arith, sym, ◌∙◌, ap, subst, slice_get, slice_index_or, Some, inl, inr, take, nat_eq, position, false, eqb-true, eq-eqb, length-append, true≢false}
-use Rattle.std.specs.Prelude.{nat_lt, if◌then◌else◌}
+use Rattle.std.proofs.Common.{◌≡◌, ◌≤◌, ◌<◌, ℕ, zero, suc, List, map, ◌++◌, ◌∷◌, [], All, length, arith, sym, ◌∙◌, ap, subst, slice_get, slice_index_or, Some, inl, inr, take, nat_eq, false, eqb-true, eq-eqb, length-append, true≢false}
+use Rattle.std.specs.Prelude.{nat_lt}
 use Rattle.std.specs.Option.{option_map, option_map_or}
-use Rattle.std.specs.List.{list_any, position_or_len}
 use Rattle.std.proofs.lemmas.Bool.{ltb-true, ltb-false}
 use Rattle.std.proofs.lemmas.List.{length-map, map-append}
-use Rattle.std.proofs.lemmas.Option.{slice_get-map, slice_get_within, slice_get-get_or}
+use Rattle.std.proofs.lemmas.Option.{slice_get-map, slice_get_within}
 use Rattle.std.proofs.lemmas.List.Elements.{All-head, All-tail, All-cons}
-use Rattle.std.proofs.lemmas.List.Folds.{list_any_at}
-use Rattle.std.proofs.lemmas.List.Quantifiers.{position-Some}
-use Rattle.lists.proofs.Tests.{position-first, position-past}
 use Rattle.lists.proofs.Places.{at_place, length-take, map-take, row-taken, slice_get-kept, slice_get-last, slice_get-left, slice_get-push, taken-row}
 use Rattle.lists.proofs.Cases.{by_test}
-use Rattle.indexmap.specs.IndexSet.{insert_key}
 use Rattle.orientation.specs.declared.kind.Kind.{Kind}
 use Rattle.orientation.specs.declared.kind.Kind.TheVariants.{Co}
 use Rattle.orientation.specs.Kinds.{IsBelow}
@@ -20,13 +15,14 @@ use Rattle.expansion_laws.specs.Measures.{depth}
 use Rattle.shape_pool.specs.declared.node.UseOf.{UseOf}
 use Rattle.shape_pool.specs.declared.node.NodeUse.{NodeUse}
 use Rattle.shape_pool.specs.declared.held.Held.{Held}
+use Rattle.shape_pool.specs.declared.node.Node.{Node}
 use Rattle.shape_pool.specs.Nodes.{by_number, node_uses, node_id, used_node}
 use Rattle.shape_pool.specs.Rows.{Row, a_row, tree_at, greatest, depth_at, depth_over, AllHeld, AllBelow, most_nodes, most_depth}
 use Rattle.shape_pool.specs.Calls.{IsHeldAs, IsHandedIn}
-use Rattle.shape_pool.specs.Held.{row_of, stored_depth, HaveKind, IsRows, IsShared, IsIndex, IsOver, IsNext, HandsIn, rows_of, held_eq}
+use Rattle.shape_pool.specs.Held.{row_of, stored_depth, HaveKind, IsRows, IsShared, IsIndex, IsOver, IsNext, HandsIn, HasAlike, HasNone, rows_of}
 use Rattle.shape_pool.proofs.RowLaws.{origin-entry, uses-entry, tree-kept, tree-last, tree-past, tree-taken, kind-taken}
 use Rattle.shape_pool.proofs.DepthLaws.{depth-uses, greatest-same}
-use Rattle.shape_pool.proofs.HeldLaws.{held_eq-tells}
+use Rattle.shape_pool.proofs.HeldLaws.{node_eq-tells}
 
 -- ---- rows
 below-kept : (rows more : List Row) (k : Kind) (us : List UseOf) → AllHeld rows us → AllBelow rows k us → AllBelow (rows ++ more) k us
@@ -200,24 +196,21 @@ shared-held held (u ∷ us) s =
 row-over : (held : List Held) (k : Kind) (o : ℕ) (us : List UseOf) (h : Held) → IsOver held k o us h → row_of h ≡ a_row k o us
 row-over held k o us h v = λ j. record { kind = v.next.kind j; origin = v.next.origin j; uses = v.next.uses.0 j }
 
-module _ (held : List Held) (k : Kind) (o : ℕ) (us : List UseOf) (h : Held) (v : IsNext held k o us h.node.value) where
+module _ (held : List Held) (k : Kind) (o : ℕ) (us : List UseOf) (n : Node) (v : IsNext held k o us n) where
   -- the place of an equal one
-  pub found-as : (i : ℕ) → position (held_eq h) held ≡ Some i → IsHeldAs (rows_of held) o us i
-  found-as i e =
-      let p = position-Some (held_eq h) held i h e in
-      let q : Held = slice_index_or held i h in
-      let at : slice_get (rows_of held) i ≡ Some (row_of q) = slice_get-map row_of held i ∙ ap (option_map row_of) (slice_get-get_or held i h p.0) in
-      let same = (held_eq-tells h q).0 p.1 in
-      (slice_get_within (rows_of held) i (row_of q) at, origin-entry (rows_of held) i at ∙ sym same.0 ∙ v.origin, uses-entry (rows_of held) i at ∙ sym same.1 ∙ v.uses.0)
+  pub found-as : (i : ℕ) → HasAlike held n i → IsHeldAs (rows_of held) o us i
+  found-as i a =
+      let at : slice_get (rows_of held) i ≡ Some (row_of a.0) = slice_get-map row_of held i ∙ ap (option_map row_of) a.1 in
+      let same = (node_eq-tells n a.0.node.value).0 a.2 in
+      (slice_get_within (rows_of held) i (row_of a.0) at, origin-entry (rows_of held) i at ∙ sym same.0 ∙ v.origin, uses-entry (rows_of held) i at ∙ sym same.1 ∙ v.uses.0)
 
   -- where none is equal, no row has this origin and these uses
-  pub missing-as : list_any (held_eq h) held ≡ false → (i : ℕ) → IsHeldAs (rows_of held) o us i → ⊥
-  missing-as e i r =
-      let lt : i < length held = subst (λ n. i < n) (length-map held row_of) r.0 in
-      let q : Held = slice_index_or held i h in
-      let at : slice_get (rows_of held) i ≡ Some (row_of q) = slice_get-map row_of held i ∙ ap (option_map row_of) (slice_get-get_or held i h lt) in
-      let is = (held_eq-tells h q).1 (v.origin ∙ sym r.1 ∙ origin-entry (rows_of held) i at, v.uses.0 ∙ sym r.2 ∙ uses-entry (rows_of held) i at) in
-      true≢false (sym (list_any_at (held_eq h) held i h lt is) ∙ e)
+  pub missing-as : HasNone held n → (i : ℕ) → IsHeldAs (rows_of held) o us i → ⊥
+  missing-as none i r =
+      let q = at_place held i (subst (λ m. i < m) (length-map held row_of) r.0) in
+      let at : slice_get (rows_of held) i ≡ Some (row_of q.0) = slice_get-map row_of held i ∙ ap (option_map row_of) q.1 in
+      let is = (node_eq-tells n q.0.node.value).1 (v.origin ∙ sym r.1 ∙ origin-entry (rows_of held) i at, v.uses.0 ∙ sym r.2 ∙ uses-entry (rows_of held) i at) in
+      true≢false (sym is ∙ none i q.0 q.1)
 
 module _ (held : List Held) (k : Kind) (o : ℕ) (us : List UseOf) (h : Held) (v : IsOver held k o us h) where
   module _ (p : IsIndex held) (below : AllBelow (rows_of held) k us) (kind : HaveKind (rows_of held) o k) (compound : o ≡ 0 → k ≡ Co) where
@@ -229,22 +222,16 @@ module _ (held : List Held) (k : Kind) (o : ℕ) (us : List UseOf) (h : Held) (v
 
     pub entered : (new : List Held) (i : ℕ) → HandsIn held h new i → IsIndex new × IsHandedIn (rows_of held) k o us (rows_of new) i
     entered new i s = elim s [
-      | inl f ↦ (subst IsIndex (sym f.0) p, inl (ap rows_of f.0, found-as held k o us h v.next i f.1))
+      | inl f ↦ (subst IsIndex (sym f.0) p, inl (ap rows_of f.0, found-as held k o us h.node.value v.next i f.1))
       | inr f ↦
           (let row = row-over held k o us h v in
           let rows : IsRows (rows_of held ++ row_of h ∷ []) = IsRows-push (rows_of held) (row_of h) p.rows
           (subst (λ (r : Row). AllHeld (rows_of held) r.uses) (sym row) uses-held) (subst (λ (r : Row). AllBelow (rows_of held) r.kind r.uses) (sym row) below)
-          (subst (λ (r : Row). (j : ℕ) → IsHeldAs (rows_of held) r.origin r.uses j → ⊥) (sym row) (missing-as held k o us h v.next f.0))
+          (subst (λ (r : Row). (j : ℕ) → IsHeldAs (rows_of held) r.origin r.uses j → ⊥) (sym row) (missing-as held k o us h.node.value v.next f.0))
           (subst (λ (r : Row). HaveKind (rows_of held) r.origin r.kind) (sym row) kind) (subst (λ (r : Row). r.origin ≡ 0 → r.kind ≡ Co) (sym row) compound)
           (subst (λ (r : Row). depth_over (rows_of held) r.uses ≤ most_depth) (sym row) (subst (λ n. n ≤ most_depth) deep v.shallow))
           (rw length-map f.3) in (
             subst IsIndex (sym f.1) (IsIndex-push held h p rows v.next.id v.next.uses.1 (deep ∙ ap (λ (r : Row). depth_over (rows_of held) r.uses) (sym row))),
-            inr (missing-as held k o us h v.next f.0, ap rows_of f.1 ∙ rows-push held h ∙ ap (λ r. rows_of held ++ r ∷ []) row, f.2 ∙ sym (length-map held row_of)),
+            inr (missing-as held k o us h.node.value v.next f.0, ap rows_of f.1 ∙ rows-push held h ∙ ap (λ r. rows_of held ++ r ∷ []) row, f.2 ∙ sym (length-map held row_of)),
           ))
     ]
-
--- a node that goes into the set by its test
-pub handed-full : (old new : List Held) (h : Held) (i : ℕ) → new ≡ insert_key held_eq old h → i ≡ position_or_len (held_eq h) old → length old < most_nodes → HandsIn old h new i
-handed-full old new h i keys index few = by_test (list_any (held_eq h) old)
-    (λ e. inl (keys ∙ ap (λ b. if b then old else old ++ h ∷ []) e, position-first (held_eq h) old e ∙ ap Some (sym index)))
-    (λ e. inr (e, keys ∙ ap (λ b. if b then old else old ++ h ∷ []) e, index ∙ position-past (held_eq h) old e, few))

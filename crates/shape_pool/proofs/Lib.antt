@@ -5,6 +5,8 @@ pub mod SubtreeLaws
 pub mod HeldLaws
 pub mod LoadedLaws
 pub mod MakingLaws
+pub mod HeldOfLaws
+pub mod StockLaws
 pub mod IndexLaws
 pub mod CallLaws
 pub mod HandingLaws

@@ -1,6 +1,5 @@
 -- Nodes as the index of a pool holds them.
-use Rattle.std.specs.Prelude.{◌≡◌, ℕ, suc, ◌<◌, ◌≤◌, Bool, false, nat_eq, List, [], ◌∷◌, ◌++◌, ◌⊎◌, map, length, position, All, Option, Some, slice_get}
-use Rattle.std.specs.List.{list_any}
+use Rattle.std.specs.Prelude.{◌≡◌, ℕ, suc, ◌<◌, ◌≤◌, Bool, true, false, nat_eq, List, [], ◌∷◌, ◌++◌, ◌⊎◌, map, length, All, Option, Some, slice_get}
 use Rattle.orientation.specs.declared.kind.Kind.{Kind}
 use Rattle.orientation.specs.declared.kind.Kind.TheVariants.{Co}
 use Rattle.shape_pool.specs.declared.node.Node.{Node}
@@ -12,22 +11,25 @@ use Rattle.std.specs.Hash as fed
 use Rattle.std.specs.Hash.{Alike, same_Alike, on_Alike, and-Alike, items_Alike}
 use Rattle.shape_pool.specs.declared.node.NodeUse.{NodeUse, out-NodeUse}
 use Rattle.shape_pool.specs.declared.held.Held.{Held}
+use Rattle.shape_pool.specs.declared.held.Made.{Made}
+use Rattle.std.specs.declared.alloc.Global.{Global}
+use Rattle.std.specs.declared.rc.Rc.{Rc}
 use Rattle.orientation.specs.Turns.{sign_of}
 use Rattle.shape_pool.specs.declared.node.NodeId.{NodeId}
 use Rattle.shape_pool.specs.declared.node.UseOf.{UseOf}
 use Rattle.shape_pool.specs.Rows.{Row, a_row, AllBelow, depth_at, greatest, most_depth, most_nodes}
-use Rattle.shape_pool.specs.Calls.{IsLoadedAs}
+use Rattle.shape_pool.specs.Calls.{IsLoadedAs, IsOf}
 use Rattle.shape_pool.specs.declared.fault.PoolFault.{PoolFault}
 use Rattle.shape_pool.specs.declared.fault.PoolFault.TheVariants.{TooMany, TooDeep, NoMemory}
-use Rattle.shape_pool.specs.Nodes.{by_number, node_kind, node_id, node_origin, node_uses, used_node, use_eq, use_input}
+use Rattle.shape_pool.specs.Nodes.{by_number, node_eq, node_kind, node_id, node_origin, node_uses, used_node, use_eq, use_input}
 
--- whether two held nodes are one: they have one origin and one list of uses
-abbrev pub held_eq : Held → Held → Bool
-held_eq = eq_of_both (on (λ h. node_origin h.node.value) nat_eq) (on (λ h. node_uses h.node.value) (pointwise use_eq))
+-- whether two made nodes are one: they have one origin and one list of uses
+abbrev pub made_eq : Made → Made → Bool
+made_eq = eq_of_both (on (λ m. node_origin m.node.value) nat_eq) (on (λ m. node_uses m.node.value) (pointwise use_eq))
 
--- what is hashed of a held node
-abbrev pub held_input : Held → fed.HashWrites
-held_input h = fed.u32 (node_origin h.node.value) ++ fed.slice use_input (node_uses h.node.value)
+-- what is hashed of a made node
+abbrev pub made_input : Made → fed.HashWrites
+made_input m = fed.u32 (node_origin m.node.value) ++ fed.slice use_input (node_uses m.node.value)
 
 -- the tests are equivalences, and what they find equal is hashed alike
 pub use_equiv : IsEquivalence use_eq
@@ -35,18 +37,18 @@ use_equiv =
     and_equiv (on_equiv (λ u. sign_of (out-NodeUse u).turn) nat_eq_equiv)
     (and_equiv (on_equiv (λ u. (out-NodeUse u).place.0) nat_eq_equiv) (on_equiv (λ u. node_id (used_node u)) nat_eq_equiv))
 
-pub held_equiv : IsEquivalence held_eq
-held_equiv = and_equiv (on_equiv (λ h. node_origin h.node.value) nat_eq_equiv) (on_equiv (λ h. node_uses h.node.value) (lists_equiv use_equiv))
+pub made_equiv : IsEquivalence made_eq
+made_equiv = and_equiv (on_equiv (λ m. node_origin m.node.value) nat_eq_equiv) (on_equiv (λ m. node_uses m.node.value) (lists_equiv use_equiv))
 
 use_alike : Alike use_eq use_input
 use_alike =
     and-Alike (on_Alike (λ u. sign_of (out-NodeUse u).turn) (same_Alike fed.u8 unsigned_Decides))
     (and-Alike (on_Alike (λ u. (out-NodeUse u).place.0) (same_Alike fed.usize unsigned_Decides)) (on_Alike (λ u. node_id (used_node u)) (same_Alike fed.u32 unsigned_Decides)))
 
-pub held_alike : Alike held_eq held_input
-held_alike =
-    and-Alike (on_Alike (λ h. node_origin h.node.value) (same_Alike fed.u32 unsigned_Decides))
-    (on_Alike (λ h. node_uses h.node.value) (items_Alike use_alike))
+pub made_alike : Alike made_eq made_input
+made_alike =
+    and-Alike (on_Alike (λ m. node_origin m.node.value) (same_Alike fed.u32 unsigned_Decides))
+    (on_Alike (λ m. node_uses m.node.value) (items_Alike use_alike))
 
 -- the nodes of an origin have this kind
 abbrev pub HaveKind : List Row → ℕ → Kind → Type 0
@@ -95,9 +97,32 @@ pub record IsIndex (held : List Held) : Type 0 where
   pub shared : (i : ℕ) (h : Held) → slice_get held i ≡ Some h → All (IsShared held) (node_uses h.node.value)
   pub depths : (i : ℕ) → i < length held → stored_depth held i ≡ depth_at (map row_of held) i
 
+-- nodes, each beside its depth
+abbrev pub held_of : List (Rc Node Global) → List ℕ → List Held
+held_of [] depths = []
+held_of (n ∷ nodes) [] = []
+held_of (n ∷ nodes) (d ∷ depths) = (record { node = n; depth = d }) ∷ held_of nodes depths
+
+-- a held number whose node has a node's origin and uses, and that there is none
+abbrev pub HasAlike : List Held → Node → ℕ → Type 0
+HasAlike held n i = (h : Held) × (slice_get held i ≡ Some h) × (node_eq n h.node.value ≡ true)
+
+abbrev pub HasNone : List Held → Node → Type 0
+HasNone held n = (i : ℕ) (h : Held) → slice_get held i ≡ Some h → node_eq n h.node.value ≡ false
+
+-- an origin that stands for no record, or is held
+abbrev pub IsKnown : List Row → ℕ → Type 0
+IsKnown rows o = (o ≡ 0) ⊎ ((i : ℕ) × IsOf rows o i)
+
+-- The made nodes are held, in the order of their numbers, and each node held is one of them or is the loaded one of its origin.
+pub record IsMade (held : List Held) (made : List Made) : Type 0 where
+  pub among : (j : ℕ) (m : Made) → slice_get made j ≡ Some m → (h : Held) × (slice_get held (node_id m.node.value) ≡ Some h) × (m.node.value ≡ h.node.value)
+  pub rising : (j k : ℕ) (m n : Made) → j < k → slice_get made j ≡ Some m → slice_get made k ≡ Some n → node_id m.node.value < node_id n.node.value
+  pub others : (i : ℕ) (h : Held) → slice_get held i ≡ Some h → IsLoadedAs (map row_of held) (node_origin h.node.value) i ⊎ ((j : ℕ) × (m : Made) × (slice_get made j ≡ Some m) × (node_id m.node.value ≡ i))
+
 -- and the number under which an origin is loaded is noted
-pub record IsPool (held : List Held) (loaded : ℕ → Option NodeId) : Type 0 where
-  pub index : IsIndex held
+pub record IsStock (held : List Held) (made : List Made) (loaded : ℕ → Option NodeId) : Type 0 where
+  pub found : IsMade held made
   pub named : (o i : ℕ) → IsLoadedAs (map row_of held) o i → (n : NodeId) × (loaded o ≡ Some n) × (n.0 ≡ i)
 
 -- a node of this kind and origin over these numbered uses, with the next number
@@ -110,8 +135,8 @@ pub record IsNext (held : List Held) (k : Kind) (o : ℕ) (us : List UseOf) (n :
 -- where a node is handed in: it stays at the place of one that is equal, or goes last
 abbrev pub HandsIn : List Held → Held → List Held → ℕ → Type 0
 HandsIn old h new i =
-    ((new ≡ old) × (position (held_eq h) old ≡ Some i)) ⊎
-    ((list_any (held_eq h) old ≡ false) × (new ≡ old ++ h ∷ []) × (i ≡ length old) × (length old < most_nodes))
+    ((new ≡ old) × HasAlike old h.node.value i) ⊎
+    (HasNone old h.node.value × (new ≡ old ++ h ∷ []) × (i ≡ length old) × (length old < most_nodes))
 
 -- a node over held ones beside its depth, which is within the limit
 pub record IsOver (held : List Held) (k : Kind) (o : ℕ) (us : List UseOf) (h : Held) : Type 0 where

@@ -1,6 +1,7 @@
 -- Shared nodes: their fields, their trees, and when two uses are one.
 use Rattle.std.specs.Prelude.{◌≡◌, ℕ, Bool, nat_eq, List, [], ◌++◌}
 use Rattle.std.specs.Ordering.{eq_of_both, on}
+use Rattle.std.specs.Cmp.Lexicographic.{pointwise}
 use Rattle.std.specs.Hash as fed
 use Rattle.orientation.specs.declared.kind.Kind.{Kind}
 use Rattle.orientation.specs.Turns.{sign_of}
@@ -53,6 +54,10 @@ pub record IsBareCopy (a b : Node) : Type 0 where
 -- whether two uses are one, their nodes told by number
 abbrev pub use_eq : NodeUse → NodeUse → Bool
 use_eq = eq_of_both (on (λ u. sign_of (out-NodeUse u).turn) nat_eq) (eq_of_both (on (λ u. (out-NodeUse u).place.0) nat_eq) (on (λ u. node_id (used_node u)) nat_eq))
+
+-- whether two nodes have one origin and the same uses
+abbrev pub node_eq : Node → Node → Bool
+node_eq = eq_of_both (on node_origin nat_eq) (on node_uses (pointwise use_eq))
 
 -- what is hashed of a use
 abbrev pub use_input : NodeUse → fed.HashWrites

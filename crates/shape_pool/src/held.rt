@@ -1,8 +1,9 @@
-//! A node as the index of a pool holds it: told from others by its origin and its uses.
+//! Nodes as a pool holds them, and when two of them are one: told from others by their origin and their uses.
+ghost use Rattle.std.specs.Prelude.{◌≡◌};
 ghost use Rattle.std.specs.Cmp.Rules.{comparing, hashing};
 ghost use Rattle.std.proofs.Common.{rules};
-ghost use Rattle.shape_pool.specs.Nodes.{use_eq, use_input};
-ghost use Rattle.shape_pool.specs.Held.{held_alike, held_eq, held_equiv, held_input};
+ghost use Rattle.shape_pool.specs.Nodes.{node_eq, use_eq, use_input};
+ghost use Rattle.shape_pool.specs.Held.{made_alike, made_eq, made_equiv, made_input};
 ghost use Rattle.std.specs.Cmp.{partial_equiv_from_equiv};
 
 use crate::node::{Node, NodeUse};
@@ -15,6 +16,12 @@ use std::rc::Rc;
 pub(crate) struct Held {
     pub(crate) node: Rc<Node>,
     pub(crate) depth: u32,
+}
+
+/// A shared node as the index of made nodes holds it: told from others by its origin and its uses.
+#[derive(Drop)]
+pub(crate) struct Made {
+    pub(crate) node: Rc<Node>,
 }
 
 impl PartialEq for NodeUse {
@@ -46,25 +53,31 @@ impl Hash for NodeUse {
     }
 }
 
-impl PartialEq for Held {
-    ghost eq = { held_eq };
+/// Whether two nodes have one origin and the same uses.
+pub(crate) fn alike(a: &Rc<Node>, b: &Rc<Node>) -> bool
+    ensures { result ≡ node_eq a.now.value b.now.value }
+{
+    a.origin == b.origin && a.uses.as_slice() == b.uses.as_slice()
+}
 
-    ghost laws = { partial_equiv_from_equiv held_equiv };
+impl PartialEq for Made {
+    ghost eq = { made_eq };
 
-    fn eq(&self, other: &Held) -> bool {
-        self.node.origin == other.node.origin
-            && self.node.uses.as_slice() == other.node.uses.as_slice()
+    ghost laws = { partial_equiv_from_equiv made_equiv };
+
+    fn eq(&self, other: &Made) -> bool {
+        alike(&self.node, &other.node)
     }
 }
 
-impl Eq for Held {
-    ghost laws = { held_equiv };
+impl Eq for Made {
+    ghost laws = { made_equiv };
 }
 
-impl Hash for Held {
-    ghost hash_input = { held_input };
+impl Hash for Made {
+    ghost hash_input = { made_input };
 
-    ghost respects_eq = { held_alike.fed };
+    ghost respects_eq = { made_alike.fed };
 
     fn hash<H: Hasher>(&self, state: &mut H) {
         self.node.origin.hash(state);

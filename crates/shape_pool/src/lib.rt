@@ -4,10 +4,12 @@
 mod fault;
 mod handing;
 mod held;
+mod held_nodes;
 mod ids;
 mod making;
 mod node;
 mod pool;
+mod stock;
 
 pub use fault::PoolFault;
 pub use ids::{IdPairs, Ids};

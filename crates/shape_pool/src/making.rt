@@ -6,13 +6,14 @@ ghost use Rattle.shape_pool.specs.Held.{rows_of, stored_depth, AreUses, HaveIds,
 
 use crate::fault::{MOST_DEPTH, PoolFault};
 use crate::held::Held;
+use crate::held_nodes::HeldNodes;
 use crate::node::{Node, NodeId, NodeUse, UseOf};
 use orientation::Kind;
-use std::alloc::{AllocError, Global};
+use std::alloc::AllocError;
 use std::rc::Rc;
 
 /// The depth of a tree over these uses.
-pub(crate) fn depth_over(held: &[Held], uses: &[UseOf]) -> u32
+pub(crate) fn depth_over(held: &HeldNodes, uses: &[UseOf]) -> u32
     requires held { All (λ u. u.id.0 < length held.now) uses.now }
     requires shallow { (i : ℕ) → i < length held.now → stored_depth held.now i ≤ most_depth }
     ensures depth { result ≡ suc (greatest (stored_depth held.now) uses.now) }
@@ -20,7 +21,7 @@ pub(crate) fn depth_over(held: &[Held], uses: &[UseOf]) -> u32
 {
     let mut deepest = 0;
     for u in uses {
-        deepest = max_of(deepest, held[u.id.0 as usize].depth);
+        deepest = max_of(deepest, held.depth(u.id.0 as usize));
     }
     deepest + 1
 }
@@ -33,18 +34,14 @@ fn max_of(a: u32, b: u32) -> u32
 }
 
 /// The uses with the held nodes that they name.
-pub(crate) fn shared_uses(
-    alloc: Global,
-    held: &[Held],
-    uses: &[UseOf],
-) -> Result<Vec<NodeUse>, AllocError>
+pub(crate) fn shared_uses(held: &HeldNodes, uses: &[UseOf]) -> Result<Vec<NodeUse>, AllocError>
     requires held { All (λ u. u.id.0 < length held.now) uses.now }
     requires ids { HaveIds held.now }
     ensures { IfOk result (λ v. AreUses held.now uses.now v.items) }
 {
-    let mut shared = Vec::with_capacity(alloc, uses.len())?;
+    let mut shared = Vec::with_capacity(held.allocator(), uses.len())?;
     for u in uses {
-        let node = held[u.id.0 as usize].node.clone()?;
+        let node = held.node(u.id.0 as usize).clone()?;
         shared.push(NodeUse {
             turn: u.turn,
             place: u.place,
@@ -56,8 +53,7 @@ pub(crate) fn shared_uses(
 
 /// A new node over held ones, with the next number.
 pub(crate) fn new_node(
-    alloc: Global,
-    held: &[Held],
+    held: &HeldNodes,
     kind: Kind,
     origin: u32,
     uses: &[UseOf],
@@ -71,15 +67,14 @@ pub(crate) fn new_node(
         id: NodeId(held.len() as u32),
         kind,
         origin,
-        uses: shared_uses(alloc, held, uses)?,
+        uses: shared_uses(held, uses)?,
     };
-    Ok(Rc::new(alloc, node)?)
+    Ok(Rc::new(held.allocator(), node)?)
 }
 
 /// A held node's kind and origin over other uses, with the next number.
 pub(crate) fn changed_node(
-    alloc: Global,
-    held: &[Held],
+    held: &HeldNodes,
     id: NodeId,
     uses: &[UseOf],
 ) -> Result<Rc<Node>, AllocError>
@@ -89,8 +84,8 @@ pub(crate) fn changed_node(
     requires few { length held.now ≤ most_nodes }
     ensures { IfOk result (λ n. IsNext held.now (kind_at (rows_of held.now) id.0) (origin_at (rows_of held.now) id.0) uses.now n.value) }
 {
-    let shared = shared_uses(alloc, held, uses)?;
-    let own = with_uses(&held[id.0 as usize].node, NodeId(held.len() as u32), shared)?;
+    let shared = shared_uses(held, uses)?;
+    let own = with_uses(held.node(id.0 as usize), NodeId(held.len() as u32), shared)?;
     Ok(own)
 }
 
@@ -109,7 +104,7 @@ fn with_uses(node: &Rc<Node>, id: NodeId, uses: Vec<NodeUse>) -> Result<Rc<Node>
 }
 
 /// The depth over these uses, if it is within the limit.
-fn depth_within(held: &[Held], uses: &[UseOf]) -> Result<u32, PoolFault>
+fn depth_within(held: &HeldNodes, uses: &[UseOf]) -> Result<u32, PoolFault>
     requires index { IsIndex held.now }
     requires held { All (λ u. u.id.0 < length held.now) uses.now }
     ensures ok { IfOk result (λ depth. (depth ≡ suc (greatest (stored_depth held.now) uses.now)) × (depth ≤ most_depth)) }
@@ -124,8 +119,7 @@ fn depth_within(held: &[Held], uses: &[UseOf]) -> Result<u32, PoolFault>
 
 /// A new node over held ones beside its depth.
 pub(crate) fn held_over(
-    alloc: Global,
-    held: &[Held],
+    held: &HeldNodes,
     kind: Kind,
     origin: u32,
     uses: &[UseOf],
@@ -136,19 +130,14 @@ pub(crate) fn held_over(
     ensures err { IfErr result (λ fault. IsTooDeep (suc (greatest (stored_depth held.now) uses.now)) fault) }
 {
     let depth = depth_within(held, uses)?;
-    match new_node(alloc, held, kind, origin, uses) {
+    match new_node(held, kind, origin, uses) {
         Ok(node) => Ok(Held { node, depth }),
         Err(_) => Err(PoolFault::NoMemory),
     }
 }
 
 /// A held node's kind and origin over other uses, beside its depth.
-pub(crate) fn held_changed(
-    alloc: Global,
-    held: &[Held],
-    id: NodeId,
-    uses: &[UseOf],
-) -> Result<Held, PoolFault>
+pub(crate) fn held_changed(held: &HeldNodes, id: NodeId, uses: &[UseOf]) -> Result<Held, PoolFault>
     requires index { IsIndex held.now }
     requires id { id.0 < length held.now }
     requires held { All (λ u. u.id.0 < length held.now) uses.now }
@@ -156,7 +145,7 @@ pub(crate) fn held_changed(
     ensures err { IfErr result (λ fault. IsTooDeep (suc (greatest (stored_depth held.now) uses.now)) fault) }
 {
     let depth = depth_within(held, uses)?;
-    match changed_node(alloc, held, id, uses) {
+    match changed_node(held, id, uses) {
         Ok(node) => Ok(Held { node, depth }),
         Err(_) => Err(PoolFault::NoMemory),
     }

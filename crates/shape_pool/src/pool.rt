@@ -9,12 +9,12 @@ ghost use Rattle.shape_pool.specs.Calls.{IsHandedIn, IsHeldAs, IsLoaded, IsLoade
 ghost use Rattle.shape_pool.specs.Laws.{IsSound};
 
 use crate::fault::PoolFault;
-use crate::handing::{hold, hold_changed, note};
-use crate::held::Held;
+use crate::handing::{hold_changed, hold_loaded, hold_made};
+use crate::held::Made;
 use crate::making::new_node;
 use crate::node::{Node, NodeId, UseOf};
+use crate::stock::Stock;
 use brep_desk::Steps;
-use indexmap::IndexSet;
 use orientation::Kind;
 use std::alloc::{AllocError, Global};
 use std::marker::Model;
@@ -22,25 +22,21 @@ use std::rc::Rc;
 use std::sync::ledger::Ledger;
 
 /// Shared nodes, each held once. A pool is seen as its rows, in the order of the numbers.
-///
-/// Beside the nodes it keeps a number for each origin up to the greatest that was loaded. Such a number counts only where its
-/// node is held and has the origin, so that going back leaves these as they are.
 #[derive(Drop)]
 pub struct Pool {
-    index: IndexSet<Held>,
-    loaded: Vec<NodeId>,
+    stock: Stock,
 }
 
 impl Model for Pool {
-    ghost use Rattle.std.specs.Prelude.{List, map, slice_get};
+    ghost use Rattle.std.specs.Prelude.{List, map};
     ghost use Rattle.shape_pool.specs.Rows.{Row};
-    ghost use Rattle.shape_pool.specs.Held.{row_of, IsPool};
+    ghost use Rattle.shape_pool.specs.Held.{row_of, IsIndex};
 
     ghost Value = { List Row };
 
-    ghost view = { λ p. map row_of p.index.keys };
+    ghost view = { λ p. map row_of p.stock };
 
-    ghost invariant = { λ p. IsPool p.index.keys (slice_get p.loaded.items) };
+    ghost invariant = { λ p. IsIndex p.stock };
 }
 
 impl Pool {
@@ -49,8 +45,7 @@ impl Pool {
         ensures { IfOk result (λ pool. pool ≡ []) }
     {
         Ok(Pool {
-            index: IndexSet::new(alloc),
-            loaded: Vec::new(alloc),
+            stock: Stock::new(alloc),
         })
     }
 
@@ -58,7 +53,7 @@ impl Pool {
     pub fn mark(&self) -> u32
         ensures { result ≡ length self.now }
     {
-        self.index.len() as u32
+        self.stock.held().len() as u32
     }
 
     /// The node of a held number. Each of its uses has the node of the number that it names.
@@ -71,7 +66,7 @@ impl Pool {
         ensures tree { (word : ℕ → List Pair) → tree_of_node word result.now.value ≡ tree_at word self.now id.0 }
         ensures shared { All (λ u. (word : ℕ → List Pair) → tree_of_node word (used_node u) ≡ tree_at word self.now (node_id (used_node u))) (node_uses result.now.value) }
     {
-        &self.index.as_slice()[id.0 as usize].node
+        self.stock.held().node(id.0 as usize)
     }
 
     /// The kind of a held number.
@@ -79,7 +74,7 @@ impl Pool {
         requires { id.0 < length self.now }
         ensures { result ≡ kind_at self.now id.0 }
     {
-        self.index.as_slice()[id.0 as usize].node.kind
+        self.stock.held().node(id.0 as usize).kind
     }
 
     /// The origin of a held number.
@@ -87,7 +82,7 @@ impl Pool {
         requires { id.0 < length self.now }
         ensures { result ≡ origin_at self.now id.0 }
     {
-        self.index.as_slice()[id.0 as usize].node.origin
+        self.stock.held().node(id.0 as usize).origin
     }
 
     /// The depth of a held number's tree, which is 1 without uses.
@@ -96,7 +91,7 @@ impl Pool {
         ensures depth { result ≡ depth_at self.now id.0 }
         ensures tree { (word : ℕ → List Pair) → depth_of (tree_at word self.now id.0) ≡ result }
     {
-        self.index.as_slice()[id.0 as usize].depth
+        self.stock.held().depth(id.0 as usize)
     }
 
     /// The number that an origin was loaded as, and none where it isn't loaded.
@@ -104,23 +99,7 @@ impl Pool {
         ensures some { IfSome result (λ id. IsLoadedAs self.now origin id.0) }
         ensures none { IfNone result (¬ IsLoaded self.now origin) }
     {
-        if origin == 0 {
-            return None;
-        }
-        match self.loaded.get(origin as usize) {
-            Some(id) if self.is_of(*id, origin) => Some(*id),
-            _ => None,
-        }
-    }
-
-    /// Whether a number is held, with a node of this origin.
-    fn is_of(&self, id: NodeId, origin: u32) -> bool
-        ensures { IsTrue result ↔ IsOf self.now origin id.0 }
-    {
-        match self.index.get_index(id.0 as usize) {
-            Some(held) => held.node.origin == origin,
-            None => false,
-        }
+        self.stock.named(origin)
     }
 
     /// Holds the node of an origin that isn't loaded, and gives its number.
@@ -142,12 +121,7 @@ impl Pool {
         ensures grows { length self.old ≤ length self.new }
         ensures kept { Keeps self.old self.new }
     {
-        let next = NodeId(self.index.len() as u32);
-        match note(&mut self.loaded, origin, next) {
-            Ok(()) => {}
-            Err(_) => return Err(PoolFault::NoMemory),
-        }
-        let id = hold(&mut self.index, kind, origin, uses)?;
+        let id = hold_loaded(&mut self.stock, kind, origin, uses)?;
         Ok(id)
     }
 
@@ -178,7 +152,7 @@ impl Pool {
         ensures kept { Keeps self.old self.new }
     {
         steps.tick();
-        let made = hold_changed(&mut self.index, id, uses)?;
+        let made = hold_changed(&mut self.stock, id, uses)?;
         Ok(made)
     }
 
@@ -197,7 +171,7 @@ impl Pool {
         ensures grows { length self.old ≤ length self.new }
         ensures kept { Keeps self.old self.new }
     {
-        let made = hold(&mut self.index, Kind::Co, 0, uses)?;
+        let made = hold_made(&mut self.stock, uses)?;
         Ok(made)
     }
 
@@ -207,15 +181,9 @@ impl Pool {
         ensures some { IfOk result (λ found. IfSome found (λ id. IsHeldAs self.now origin uses.now id.0)) }
         ensures none { IfOk result (λ found. IfNone found ((i : ℕ) → ¬ IsHeldAs self.now origin uses.now i)) }
     {
-        let node = new_node(
-            *self.index.allocator(),
-            self.index.as_slice(),
-            Kind::Co,
-            origin,
-            uses,
-        )?;
-        match self.index.get_index_of(&Held { node, depth: 0 }) {
-            Some(place) => Ok(Some(NodeId(place as u32))),
+        let node = new_node(self.stock.held(), Kind::Co, origin, uses)?;
+        match self.stock.find(&Made { node }) {
+            Some(id) => Ok(Some(id)),
             None => Ok(None),
         }
     }
@@ -229,7 +197,7 @@ impl Pool {
         ensures loaded { KeepsLoadedBelow mark self.old self.new }
         ensures places { (n : ℕ) → HasPlaces self.old n → HasPlaces self.new n }
     {
-        self.index.truncate(mark as usize);
+        self.stock.truncate(mark);
     }
 
     /// What holds of every pool, by which a caller reads its trees: numbers are equal exactly where their trees are, a number's
@@ -238,6 +206,6 @@ impl Pool {
     pub fn laws(&self)
         ensures { IsSound self.now }
     {
-        let _ = &self.index;
+        let _ = &self.stock;
     }
 }

@@ -1,7 +1,8 @@
--- A node goes into the set, or stays at the place of its equal.
-use Rattle.std.proofs.Common.{arith}
-use Rattle.shape_pool.proofs.IndexLaws.{handed-full}
+-- A node that is held is found at the number of the one that it is like.
+use Rattle.std.proofs.Common.{subst, refl, inl}
+use Rattle.shape_pool.specs.declared.node.Node.{Node}
+use Rattle.shape_pool.specs.Held.{HasAlike}
 use Rattle.shape_pool.proofs.handing.hand_in.Goals as goal
 
-pub returns-clause-ok : goal.returns-clause-ok
-returns-clause-ok c = handed-full c.args.index.now.keys c.insert_full.new.self.keys c.args.node c.in-Ok.place c.in-Ok.ensures.keys c.in-Ok.ensures.index (omega (arith, c.len.ensures.len, c.if-len-ge-MOST_NODES.false))
+pub returns-in-Some-clause-ok : goal.returns-in-Some-clause-ok
+returns-in-Some-clause-ok c = inl (refl, subst (λ (n : Node). HasAlike c.args.stock.now n c.in-Some.id.0) c.in-Ok.ensures.cases c.in-Some.ensures.some)

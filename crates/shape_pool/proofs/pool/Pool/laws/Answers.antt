@@ -5,4 +5,4 @@ use Rattle.shape_pool.proofs.CallLaws.{sound}
 use Rattle.shape_pool.proofs.pool.Pool.laws.Goals as goal
 
 pub returns : goal.returns
-returns c = subst IsSound c.self.view_is (sound _ c.self.invariant.index.rows)
+returns c = subst IsSound c.self.view_is (sound _ c.self.invariant.rows)

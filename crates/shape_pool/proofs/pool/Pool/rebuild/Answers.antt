@@ -8,31 +8,31 @@ use Rattle.shape_pool.proofs.pool.Pool.rebuild.Goals as goal
 
 pub returns-clause-node : goal.returns-clause-node
 returns-clause-node g c =
-    let new : List Row = rows_of c.hold_changed.new.index.keys in
+    let new : List Row = rows_of c.hold_changed.new.stock in
     let handed = subst (λ (rs : List Row). IsHandedIn rs (kind_at rs c.args.id.0) (origin_at rs c.args.id.0) c.args.uses.now new c.in_ok-made.made.0) c.self.view_is c.in_ok-made.ensures.handed in
     handed-node c.args.self.now (kind_at c.args.self.now c.args.id.0) (origin_at c.args.self.now c.args.id.0) c.args.uses.now new c.in_ok-made.made.0 handed
-    (kind-of-held c.args.self.now (subst IsRows c.self.view_is c.self.invariant.index.rows) c.args.id.0 c.requires.id)
+    (kind-of-held c.args.self.now (subst IsRows c.self.view_is c.self.invariant.rows) c.args.id.0 c.requires.id)
 
 pub returns-clause-tree : goal.returns-clause-tree
 returns-clause-tree g c =
-    let new : List Row = rows_of c.hold_changed.new.index.keys in
+    let new : List Row = rows_of c.hold_changed.new.stock in
     let handed = subst (λ (rs : List Row). IsHandedIn rs (kind_at rs c.args.id.0) (origin_at rs c.args.id.0) c.args.uses.now new c.in_ok-made.made.0) c.self.view_is c.in_ok-made.ensures.handed in
     handed-tree c.args.self.now (kind_at c.args.self.now c.args.id.0) (origin_at c.args.self.now c.args.id.0) c.args.uses.now new c.in_ok-made.made.0 handed c.in_ok-made.ensures.index.rows c.requires.held
 
 pub returns-clause-loaded : goal.returns-clause-loaded
 returns-clause-loaded g c =
-    let new : List Row = rows_of c.hold_changed.new.index.keys in
+    let new : List Row = rows_of c.hold_changed.new.stock in
     let handed = subst (λ (rs : List Row). IsHandedIn rs (kind_at rs c.args.id.0) (origin_at rs c.args.id.0) c.args.uses.now new c.in_ok-made.made.0) c.self.view_is c.in_ok-made.ensures.handed in
     handed-loaded c.args.self.now (kind_at c.args.self.now c.args.id.0) (origin_at c.args.self.now c.args.id.0) c.args.uses.now new c.in_ok-made.made.0 handed (inr (c.args.id.0, (c.requires.id, refl)))
 
 pub returns-clause-places : goal.returns-clause-places
 returns-clause-places g c =
-    let new : List Row = rows_of c.hold_changed.new.index.keys in
+    let new : List Row = rows_of c.hold_changed.new.stock in
     let handed = subst (λ (rs : List Row). IsHandedIn rs (kind_at rs c.args.id.0) (origin_at rs c.args.id.0) c.args.uses.now new c.in_ok-made.made.0) c.self.view_is c.in_ok-made.ensures.handed in
     handed-places c.args.self.now (kind_at c.args.self.now c.args.id.0) (origin_at c.args.self.now c.args.id.0) c.args.uses.now new c.in_ok-made.made.0 handed
 
 pub returns-clause-kept : goal.returns-clause-kept
 returns-clause-kept g c =
-    let new : List Row = rows_of c.hold_changed.new.index.keys in
+    let new : List Row = rows_of c.hold_changed.new.stock in
     let handed = subst (λ (rs : List Row). IsHandedIn rs (kind_at rs c.args.id.0) (origin_at rs c.args.id.0) c.args.uses.now new c.in_ok-made.made.0) c.self.view_is c.in_ok-made.ensures.handed in
     handed-keeps c.args.self.now (kind_at c.args.self.now c.args.id.0) (origin_at c.args.self.now c.args.id.0) c.args.uses.now new c.in_ok-made.made.0 handed
