@@ -9,6 +9,7 @@ pub mod Walk
 pub mod Contexts
 pub mod Requests
 pub mod Steps
+pub mod Subtrees
 pub mod Rewriting
 pub mod Derivations
 pub mod Demands

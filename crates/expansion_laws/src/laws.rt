@@ -21,12 +21,18 @@ ghost use Rattle.expansion_laws.specs.Written.{IsWritten, flat};
 ghost use Rattle.expansion_laws.specs.Fewest.{NoFileHasFewer};
 ghost use Rattle.expansion_laws.specs.Walk.{RecordsAreTrees};
 ghost use Rattle.expansion_laws.specs.Steps.{Step};
+ghost use Rattle.expansion_laws.specs.Subtrees.{SubtreesStand};
 ghost use Rattle.expansion_laws.specs.Examples.{ExamplesComeOut};
 ghost use Rattle.expansion_laws.specs.RewritingLaws.{IsLeast, IsDetermined, RankedUsesHaveResults, ResultsAreCarried, ResultsDependOnKeyAlone, DemandsAreEdges, ResultsAreGathered, VisitsAreListed, KeysStandForVisits};
 
 /// The test of two trees tells whether they are one.
 pub fn equal_trees_tell()
     ensures { (x y : Tree) → (tree_eq x y ≡ true) ↔ (x ≡ y) }
+{}
+
+/// In a tree stand the tree itself and what stands in the trees of its uses.
+pub fn subtrees_stand()
+    ensures { SubtreesStand }
 {}
 
 /// In a file the numbers of records stand for trees one to one.

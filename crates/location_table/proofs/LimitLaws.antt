@@ -8,7 +8,6 @@ use Rattle.location_words.specs.declared.fault.WordFault.{WordFault}
 use Rattle.location_words.specs.Pairs.{mul, power, most_pairs, AllSmall}
 use Rattle.location_words.specs.Faults.{fault_of, fault_of_power, large_power}
 use Rattle.location_words.specs.declared.fault.WordFault.TheVariants.{Pairs, Power}
-use Rattle.location_words.proofs.FaultLemmas.{small-none}
 use Rattle.location_table.specs.Limits.{Passed, has_many_factors, limit_of, most_factors, passed}
 
 -- the tests of a power, one by one
@@ -54,14 +53,3 @@ few_factors v p (inr h) = false_right (nat_lt 1 (length v)) (nat_lt most_factors
 
 pub passed_none : (w v : List Pair) (p : ℤ) → PassesNone w v p → passed w v p ≡ None
 passed_none w v p is = rw (few_factors v p is.factors, is.power_is, is.product) refl
-
--- ---- lists of pairs without a fault
-within_none : (b : Bool) (n : ℕ) (o : Option ℕ) → (if b then Some (Pairs n) else option_map Power o) ≡ None → (b ≡ false) × (o ≡ None)
-within_none true n o e = absurd cc
-within_none false n (Some m) e = absurd cc
-within_none false n None e = (refl, refl)
-
-pub held_of_none : (l : List Pair) → fault_of l ≡ None → (length l ≤ most_pairs) × AllSmall l
-held_of_none l e =
-    let c = within_none (nat_lt most_pairs (length l)) (length l) (large_power l) e in
-    (ltb-false most_pairs (length l) c.0, small-none l c.1)

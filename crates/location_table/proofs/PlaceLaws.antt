@@ -2,12 +2,12 @@
 use Rattle.std.proofs.Common.{◌≡◌, ℕ, zero, suc, ℤ, pos, negsuc, ◌+◌, ◌≤◌, ◌==◌, ◌+ℤ◌, Bool, true, false, if◌then◌else◌, List, [], ◌∷◌, ◌++◌, length, map, reverse, fold, refl, ap, sym, subst, ◌∙◌, append_assoc, append-nil, arith, length-append}
 use Rattle.std.specs.Prelude.{nat_abs}
 use Rattle.std.specs.List.{AllByRecursion}
+use Rattle.std.proofs.lemmas.Grind.{reverse_onto}
 use Rattle.std.proofs.lemmas.List.Elements.{All-nil, All-cons}
 use Rattle.std.proofs.lemmas.List.Sums.{fold-append}
 use Rattle.location_words.specs.declared.pair.Pair.{Pair}
 use Rattle.location_words.specs.Pairs.{factor as factor_of, inverse, is_zero, most_power, mul, norm, opposite, pair, power, taken_onto, times}
-use Rattle.location_words.specs.Laws.{WordsAreAGroup}
-use Rattle.location_words.proofs.WordLaws.{reverse-cons}
+use Rattle.location_words.specs.Laws.{LimitsTell, WordsAreAGroup}
 use Rattle.location_table.specs.declared.entry.Factor.{Factor}
 use Rattle.location_table.specs.declared.entry.LocationEntry.{LocationEntry}
 use Rattle.location_table.specs.declared.entry.LocationEntry.TheVariants.{Datum, Product}
@@ -16,7 +16,6 @@ use Rattle.location_table.specs.Limits.{AreWithin}
 use Rattle.location_table.specs.Locations.{AreSoundAfter, IsSoundLocation}
 use Rattle.location_table.specs.Written.{IsOver, IsWordOver}
 use Rattle.location_table.specs.Laws.{PlacesHaveWords}
-use Rattle.location_table.proofs.LimitLaws.{held_of_none}
 use Rattle.location_table.proofs.Places.{datum_count, datums_append, places_push}
 
 -- ---- how many words
@@ -53,7 +52,7 @@ module _ (n : ℕ) where
 
   over_reverse : (xs : List Pair) → IsOver n xs → IsOver n (reverse xs)
   over_reverse [] a = tt
-  over_reverse (x ∷ xs) a = subst (IsOver n) (sym (reverse-cons x xs)) (all_append InRange (reverse xs) (x ∷ []) (over_reverse xs a.1) (a.0, tt))
+  over_reverse (x ∷ xs) a = subst (IsOver n) (sym (reverse_onto xs x [])) (all_append InRange (reverse xs) (x ∷ []) (over_reverse xs a.1) (a.0, tt))
 
   over_if : (b : Bool) (xs ys : List Pair) → IsOver n xs → IsOver n ys → IsOver n (if b then xs else ys)
   over_if true xs ys a b = a
@@ -104,11 +103,11 @@ module _ (n : ℕ) where
   word_over (w ∷ words) zero a = a.0
   word_over (w ∷ words) (suc k) a = word_over words k a.1
 
-module _ (group : WordsAreAGroup) where
+module _ (group : WordsAreAGroup) (limits : LimitsTell) where
   factors_over : (n count : ℕ) (words : List (List Pair)) → AllByRecursion (IsWordOver n) words → (w : List Pair) (factors : List Factor) → IsWordOver n w → AreWithin count words w factors → IsWordOver n (fold (with_factor words) w factors)
   factors_over n count words all w [] is are = is
   factors_over n count words all w (f ∷ factors) is are =
-      let held = held_of_none (with_factor words w f) are.0.word in
+      let held = (limits (with_factor words w f)).0 are.0.word in
       let v : List Pair = power (at_place words f.place) f.power in
       let next : IsWordOver n (with_factor words w f) = record {
         held = record { is_word = group.product_is_word v w; few = held.0; small = held.1 };

@@ -15,7 +15,7 @@ use Rattle.entry_readers.specs.Reading.{fault, at_token, spelled, decimals_at, n
 use Rattle.entry_readers.specs.Begins.{Begins, AreDecimals, IsDecimal, FieldsAreExact}
 use Rattle.lists.proofs.Results.{bind_ok, guard_ok, ok_is}
 use Rattle.location_words.specs.declared.pair.Pair.{Pair}
-use Rattle.location_words.proofs.WordLaws.{by_test}
+use Rattle.lists.proofs.Cases.{by_test}
 use Rattle.location_table.specs.declared.entry.Factor.{Factor}
 use Rattle.location_table.specs.declared.entry.LocationEntry.{LocationEntry}
 use Rattle.location_table.specs.declared.entry.LocationEntry.TheVariants.{Datum, Product}

@@ -4,7 +4,7 @@ use Rattle.std.proofs.lemmas.Bool.Decides.{nat_tests}
 use Rattle.brep_tokens.specs.declared.text.Token.{Token}
 use Rattle.lists.specs.Results.{◌>>=◌}
 use Rattle.entry_readers.specs.Reading.{Read, more}
-use Rattle.entry_readers.specs.Begins.{Begins}
+use Rattle.entry_readers.specs.Begins.{Begins, FieldsAreExact}
 use Rattle.lists.proofs.Results.{bind_ok, ok_is}
 use Rattle.location_table.specs.declared.entry.LocationEntry.{LocationEntry}
 use Rattle.location_table.specs.Locations.{location_at, spell_location, AreSoundAfter}
@@ -31,7 +31,7 @@ fresh left before n lt new ts = rw (not_done n lt, new ts, step before n ts lt) 
 pub fresh_open : (left : List Token → Read LocationEntry) (before : List LocationEntry) (n : ℕ) → 0 < n → left [] ≡ Err more → begun_from left before n [] ≡ Err more
 fresh_open left before n lt e = rw (not_done n lt, e) refl
 
-module _ (exact : LocationsAreExact) where
+module _ (fields : FieldsAreExact) (exact : LocationsAreExact) where
   record New (before : List LocationEntry) (n : ℕ) (ts rest : List Token) (all : List LocationEntry) : Type 0 where
     new : List LocationEntry
     joined : all ≡ before ++ new

@@ -1,16 +1,17 @@
 -- Reduction comes to an end at norm, and words are a group.
 use Rattle.std.proofs.Common.{◌≡◌, ◌<◌, length, arith, sym, ◌∙◌, ap, subst, append_assoc, eqb-true, true≢false}
 use Rattle.std.specs.Prelude.{◌==◌, pos, ◌+ℤ◌, true, List, [], ◌∷◌, ◌++◌, reverse, fold}
-use Rattle.std.proofs.lemmas.List.{append-nil, length-append}
+use Rattle.std.proofs.lemmas.List.{append-nil, length-append, reverse-append, reverse-reverse}
+use Rattle.lists.proofs.Cases.{by_test}
 use Rattle.location_words.specs.declared.pair.Pair.{Pair}
 use Rattle.location_words.specs.Pairs.{pair, is_zero, taken_onto, norm, mul, IsWord}
 use Rattle.location_words.specs.Products.{product}
 use Rattle.location_words.specs.Equal.{pairs_decide}
-use Rattle.location_words.specs.Laws.{Shortens, adds, drops, Chain, stays, goes, IsEnd, ReductionEnds, WordsAreAGroup, ProductsJoin, TestTells}
-use Rattle.location_words.proofs.WordLaws.{IsReduced, by_test, is_zero-true, reverse-cons, eqb_same, norm-norm, mul_assoc, mul-empty, empty-mul, mul-inverse, inverse-mul, inverse-product, IsWord-mul, IsWord-inverse}
+use Rattle.location_words.specs.Laws.{Shortens, adds, drops, Chain, stays, goes, IsEnd, ReductionEnds, WordsAreAGroup, PairsMakeWords, ProductsJoin, TestTells}
+use Rattle.location_words.proofs.WordLaws.{IsReduced, is_zero-true, reverse-cons, eqb_same, norm-norm, mul_assoc, mul-empty, empty-mul, mul-inverse, inverse-mul, inverse-product, IsWord-mul, IsWord-inverse, reduced-of-word, word-of-reduced}
 use Rattle.location_words.proofs.GroupLaws.{norm-chain, norm-end}
 use Rattle.location_words.proofs.SeamLemmas.{reduced-of, reduced-suffix}
-use Rattle.location_words.proofs.PowerLemmas.{power-word}
+use Rattle.location_words.proofs.PowerLemmas.{one-power, power-word}
 use Rattle.location_words.proofs.ProductLemmas.{product-word}
 
 -- ---- steps
@@ -98,6 +99,15 @@ product-both (w ∷ xs) ys = ap (mul w) (product-both xs ys) ∙ mul_assoc w (pr
 
 pub products_join : ProductsJoin
 products_join = record { several_is_word = product-word; several_of_two = product-both }
+
+-- ---- words pair by pair
+beginning-is_word : (xs ys : List Pair) → IsWord (xs ++ ys) → IsWord xs
+beginning-is_word xs ys is =
+    let r = reduced-suffix (reverse ys) (reverse xs) (rw (reverse-append xs ys) at (reduced-of-word (xs ++ ys) is)) in
+    rw (reverse-reverse xs) at (word-of-reduced (reverse xs) r)
+
+pub pairs_make_words : PairsMakeWords
+pairs_make_words = record { beginning_is_word = beginning-is_word; power_of_pair = one-power }
 
 pub test_tells : TestTells
 test_tells a b = ((pairs_decide a b).0, (pairs_decide a b).1)

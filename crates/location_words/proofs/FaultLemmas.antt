@@ -1,5 +1,5 @@
 -- The fault that is due, where all powers are within the limit, and where one is not.
-use Rattle.std.proofs.Common.{◌≡◌, ◌<◌, ◌≤◌, ℕ, length, refl, ap, ◌∙◌, List, [], ◌∷◌, ◌++◌, Option, Some, None, ◌+◌, sym, if◌then◌else◌}
+use Rattle.std.proofs.Common.{◌≡◌, ◌<◌, ◌≤◌, ℕ, length, refl, ap, ◌∙◌, List, [], ◌∷◌, ◌++◌, Option, Some, None, ◌+◌, sym, Bool, true, false, if◌then◌else◌}
 use Rattle.std.specs.Prelude.{nat_abs, nat_lt}
 use Rattle.std.specs.Option.{option_map, option_or}
 use Rattle.std.proofs.lemmas.Bool.{le-ltb, lt-ltb, ltb-false}
@@ -9,8 +9,9 @@ use Rattle.std.proofs.lemmas.List.Elements.{All-head, All-tail, All-nil, All-con
 use Rattle.location_words.specs.declared.pair.Pair.{Pair}
 use Rattle.location_words.specs.declared.fault.WordFault.TheVariants.{Pairs, Power}
 use Rattle.location_words.specs.Pairs.{most_pairs, most_power, AllSmall}
-use Rattle.location_words.proofs.WordLaws.{by_test}
+use Rattle.lists.proofs.Cases.{by_test}
 use Rattle.location_words.specs.Faults.{large_power, fault_of}
+use Rattle.location_words.specs.Laws.{LimitsTell}
 
 pub large-none : (l : List Pair) → AllSmall l → large_power l ≡ None
 large-none [] h = refl
@@ -57,3 +58,17 @@ large-middle kept middle rest h k =
 
 pub length-parts : (kept middle rest : List Pair) → length (kept ++ middle ++ rest) ≡ length kept + length middle + length rest
 length-parts kept middle rest = length-append (kept ++ middle) rest ∙ ap (λ n. n + length rest) (length-append kept middle)
+
+-- ---- no fault exactly where it is within the limits
+within_none : (b : Bool) (n : ℕ) (o : Option ℕ) → (if b then Some (Pairs n) else option_map Power o) ≡ None → (b ≡ false) × (o ≡ None)
+within_none true n o e = absurd cc
+within_none false n (Some m) e = absurd cc
+within_none false n None e = (refl, refl)
+
+held-of_none : (l : List Pair) → fault_of l ≡ None → (length l ≤ most_pairs) × AllSmall l
+held-of_none l e =
+    let c = within_none (nat_lt most_pairs (length l)) (length l) (large_power l) e in
+    (ltb-false most_pairs (length l) c.0, small-none l c.1)
+
+pub limits_tell : LimitsTell
+limits_tell l = (held-of_none l, λ is. fault-none l is.0 is.1)

@@ -2,10 +2,11 @@
 use Rattle.std.proofs.Common.{◌≡◌, refl, sym, ◌∙◌, ap, subst, eqb-true}
 use Rattle.std.specs.Prelude.{◌==◌, pos, ◌+ℤ◌, List, [], ◌∷◌, ◌++◌, reverse}
 use Rattle.std.proofs.lemmas.List.{reverse-reverse}
+use Rattle.lists.proofs.Cases.{by_test}
 use Rattle.location_words.specs.declared.pair.Pair.{Pair}
 use Rattle.location_words.specs.Pairs.{pair, is_zero, norm}
 use Rattle.location_words.specs.Laws.{Shortens, adds, drops, Chain, stays, goes, IsEnd}
-use Rattle.location_words.proofs.WordLaws.{push-push, push-zero, act, act-append, IsReduced, IsApart, IsReduced-act, norm-act, is_zero-true, by_test, word-of-reduced, reduced-reverse}
+use Rattle.location_words.proofs.WordLaws.{push-push, push-zero, act, act-append, IsReduced, IsApart, IsReduced-act, norm-act, is_zero-true, word-of-reduced, reduced-reverse}
 
 pub norm-shortens : (l m : List Pair) → Shortens l m → norm l ≡ norm m
 norm-shortens l m (adds before behind d p q) =

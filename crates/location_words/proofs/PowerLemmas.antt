@@ -14,7 +14,8 @@ use Rattle.location_words.specs.declared.fault.WordFault.{WordFault}
 use Rattle.location_words.specs.declared.fault.WordFault.TheVariants.{Pairs, Power, NoMemory}
 use Rattle.location_words.specs.Faults.{fault_of, fault_of_times, fault_of_power, IsDueFault}
 use Rattle.location_words.specs.Laws.{adds}
-use Rattle.location_words.proofs.WordLaws.{norm-norm, norm-append_right, by_test}
+use Rattle.lists.proofs.Cases.{by_test}
+use Rattle.location_words.proofs.WordLaws.{norm-norm, norm-append_right}
 use Rattle.location_words.proofs.FaultLemmas.{fault-power, fault-none}
 use Rattle.location_words.proofs.GroupLaws.{norm-shortens}
 use Rattle.location_words.proofs.InverseLemmas.{nat_abs-neg}

@@ -13,7 +13,7 @@ use Rattle.location_words.specs.declared.pair.Pair.{Pair}
 use Rattle.location_words.specs.Pairs.{pairs_eq, IsHeldWord}
 use Rattle.location_words.specs.Equal.{pairs_decide}
 use Rattle.location_words.specs.Tables.{entered, IsTable}
-use Rattle.location_words.proofs.WordLaws.{by_test}
+use Rattle.lists.proofs.Cases.{by_test}
 
 abbrev pub Table : Type 0
 Table = List (List Pair)

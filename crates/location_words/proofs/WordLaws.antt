@@ -6,6 +6,7 @@ use Rattle.std.proofs.lemmas.Int.{ints}
 use Rattle.std.proofs.Math.IntN.{+ℤ_invr, +ℤ_invl}
 use Rattle.std.proofs.lemmas.List.{reverse-reverse, map-append, append-nil}
 use Rattle.std.proofs.lemmas.Grind.{reverse_onto}
+use Rattle.lists.proofs.Cases.{by_test}
 use Rattle.location_words.specs.declared.pair.Pair.{Pair}
 use Rattle.location_words.specs.Pairs.{is_zero, pair, taken_onto, norm, mul, inverse, opposite}
 
@@ -36,10 +37,6 @@ IsReduced (q ∷ w) = (is_zero q.power ≡ false) × IsApart q.datum w × IsRedu
 -- a pair pushed in front: its power is added to that of its datum there
 abbrev pub push : Pair → List Pair → List Pair
 push p w = front p.datum (lead p.datum w +ℤ p.power) (after p.datum w)
-
-abbrev pub by_test : {P : Type 0} (b : Bool) → (b ≡ true → P) → (b ≡ false → P) → P
-by_test true f g = f refl
-by_test false f g = g refl
 
 pub zero-add_ℤ : (a : ℤ) → pos 0 +ℤ a ≡ a
 zero-add_ℤ a = omega (arith, ints)

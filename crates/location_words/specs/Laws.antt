@@ -1,7 +1,8 @@
 -- The laws of words.
-use Rattle.std.specs.Prelude.{◌≡◌, ◌<◌, ◌↔◌, length, IsTrue, ℕ, ℤ, pos, ◌+ℤ◌, List, [], ◌∷◌, ◌++◌}
+use Rattle.std.specs.Prelude.{◌≡◌, ◌<◌, ◌≤◌, ◌↔◌, length, IsTrue, ℕ, ℤ, pos, ◌+ℤ◌, ◌*ℤ◌, List, [], ◌∷◌, ◌++◌, None}
 use Rattle.location_words.specs.declared.pair.Pair.{Pair}
-use Rattle.location_words.specs.Pairs.{pair, norm, mul, inverse, power, pairs_eq, IsWord}
+use Rattle.location_words.specs.Pairs.{pair, norm, mul, inverse, power, pairs_eq, most_pairs, AllSmall, IsWord}
+use Rattle.location_words.specs.Faults.{fault_of}
 use Rattle.location_words.specs.Products.{product}
 
 -- one of the two ways in which a list of pairs becomes shorter: neighbours of one datum are added, or a power of 0 goes
@@ -43,6 +44,15 @@ pub record WordsAreAGroup : Type 0 where
 pub record ProductsJoin : Type 0 where
   pub several_is_word : (ws : List (List Pair)) → IsWord (product ws)
   pub several_of_two : (xs ys : List (List Pair)) → product (xs ++ ys) ≡ mul (product xs) (product ys)
+
+-- words pair by pair: what a word begins with is a word, and a power of one pair multiplies the power of that pair
+pub record PairsMakeWords : Type 0 where
+  pub beginning_is_word : (xs ys : List Pair) → IsWord (xs ++ ys) → IsWord xs
+  pub power_of_pair : (q : Pair) (p : ℤ) → power (q ∷ []) p ≡ norm (pair q.datum (q.power *ℤ p) ∷ [])
+
+-- a list has no fault exactly where it is within the limits
+abbrev pub LimitsTell : Type 0
+LimitsTell = (l : List Pair) → (fault_of l ≡ None) ↔ ((length l ≤ most_pairs) × AllSmall l)
 
 -- the test of two lists of pairs tells equality
 abbrev pub TestTells : Type 0

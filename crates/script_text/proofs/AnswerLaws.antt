@@ -1,5 +1,6 @@
 -- The command of a line is the one that its words spell.
 use Rattle.std.proofs.Common.{◌≡◌, ℕ, inl, inr, Bool, true, false, ◌&&◌, nat_le, if◌then◌else◌, List, [], ◌∷◌, Option, Some, None, Result, Ok, Err, refl, sym, ap, subst, ◌∙◌}
+use Rattle.brep_tokens.specs.Laws.{FormsAreExact}
 use Rattle.script_text.specs.Answers.{Answers}
 use Rattle.script_text.specs.Laws.{LinesSpellOneCommand}
 use Rattle.script_text.specs.Meaning.{Gives, first_fault, mentions_fault, selection_fault, command_of_line, command_of_phrase, fault_of, meaning_of, shape_fault, location_fault, unless_faulty}
@@ -29,12 +30,13 @@ spelling_says Undo = refl
 not_nothing : (words : List (List ℕ)) (p : Phrase) → is_nothing words ≡ true → Spells words p → ⊥
 not_nothing words p nothing is = true_false (sym nothing ∙ ap is_nothing is.spelled ∙ spelling_says p)
 
-pub lines_spell_one_command : LinesSpellOneCommand
-lines_spell_one_command = record {
-  read = λ words p. (phrase_there words p, phrase_back words p);
-  one = λ words p q a b. some_is p q (sym (phrase_back words p a) ∙ phrase_back words q b);
-  nothing = not_nothing;
-}
+module _ (forms : FormsAreExact) where
+  pub lines_spell_one_command : LinesSpellOneCommand
+  lines_spell_one_command = record {
+    read = λ words p. ((phrase_there forms) words p, (phrase_back forms) words p);
+    one = λ words p q a b. some_is p q (sym ((phrase_back forms) words p a) ∙ (phrase_back forms) words q b);
+    nothing = not_nothing;
+  }
 
 -- a number out of range
 IsRange : Option LineFault → Type 0
@@ -97,18 +99,19 @@ spoken : (shapes locations : ℕ) (words : List (List ℕ)) (p : Phrase) (o : Op
 spoken shapes locations words p None is e = (p, (is, (e, refl)))
 spoken shapes locations words p (Some f) is e = faulty shapes locations words p f is e
 
-with_phrase : (shapes locations : ℕ) (words : List (List ℕ)) (o : Option Phrase) → is_nothing words ≡ false → phrase_of words ≡ o → Answers shapes locations words (command_of_phrase shapes locations o)
-with_phrase shapes locations words None says e = (says, λ p is. none_some (phrase_of words) p e (phrase_back words p is))
-with_phrase shapes locations words (Some p) says e = spoken shapes locations words p (fault_of shapes locations p) (phrase_there words p e) refl
+module _ (lines : LinesSpellOneCommand) where
+  with_phrase : (shapes locations : ℕ) (words : List (List ℕ)) (o : Option Phrase) → is_nothing words ≡ false → phrase_of words ≡ o → Answers shapes locations words (command_of_phrase shapes locations o)
+  with_phrase shapes locations words None says e = (says, λ p is. none_some (phrase_of words) p e ((lines.read words p).1 is))
+  with_phrase shapes locations words (Some p) says e = spoken shapes locations words p (fault_of shapes locations p) ((lines.read words p).0 e) refl
 
-by_words : (shapes locations : ℕ) (x : Bool) (words : List (List ℕ)) → is_nothing words ≡ x → Answers shapes locations words (if x then Ok None else command_of_phrase shapes locations (phrase_of words))
-by_words shapes locations true words is = is
-by_words shapes locations false words is = with_phrase shapes locations words (phrase_of words) is refl
+  by_words : (shapes locations : ℕ) (x : Bool) (words : List (List ℕ)) → is_nothing words ≡ x → Answers shapes locations words (if x then Ok None else command_of_phrase shapes locations (phrase_of words))
+  by_words shapes locations true words is = is
+  by_words shapes locations false words is = with_phrase shapes locations words (phrase_of words) is refl
 
-pub answers : (shapes locations : ℕ) (line : List ℕ) → Answers shapes locations (words_of line) (command_of_line shapes locations line)
-answers shapes locations line = by_words shapes locations (is_nothing (words_of line)) (words_of line) refl
+  pub answers : (shapes locations : ℕ) (line : List ℕ) → Answers shapes locations (words_of line) (command_of_line shapes locations line)
+  answers shapes locations line = by_words shapes locations (is_nothing (words_of line)) (words_of line) refl
 
-pub answers_given : (shapes locations : ℕ) (line : List ℕ) (r : Result (Option Command) LineFault) → Gives r (command_of_line shapes locations line) → Answers shapes locations (words_of line) r
-answers_given shapes locations line (Ok c) gives = subst (Answers shapes locations (words_of line)) gives (answers shapes locations line)
-answers_given shapes locations line (Err f) (inl wanted) = subst (λ (e : LineFault). Answers shapes locations (words_of line) (Err e)) (sym wanted) tt
-answers_given shapes locations line (Err f) (inr gives) = subst (Answers shapes locations (words_of line)) gives (answers shapes locations line)
+  pub answers_given : (shapes locations : ℕ) (line : List ℕ) (r : Result (Option Command) LineFault) → Gives r (command_of_line shapes locations line) → Answers shapes locations (words_of line) r
+  answers_given shapes locations line (Ok c) gives = subst (Answers shapes locations (words_of line)) gives (answers shapes locations line)
+  answers_given shapes locations line (Err f) (inl wanted) = subst (λ (e : LineFault). Answers shapes locations (words_of line) (Err e)) (sym wanted) tt
+  answers_given shapes locations line (Err f) (inr gives) = subst (Answers shapes locations (words_of line)) gives (answers shapes locations line)

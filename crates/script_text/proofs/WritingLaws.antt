@@ -5,10 +5,11 @@ use Rattle.std.specs.List.{AllByRecursion, AllPairs, join_with_byte}
 use Rattle.std.proofs.lemmas.Bool.{le-leb, leb-true}
 use Rattle.std.proofs.lemmas.Bool.Decides.{eqb_tells}
 use Rattle.std.proofs.lemmas.List.{length-map}
+use Rattle.brep_tokens.specs.Written.{WrittenIsRead}
 use Rattle.orientation.specs.declared.turn.Turn.{Turn}
 use Rattle.orientation.specs.declared.turn.Turn.TheVariants.{Forward, Reversed, Internal, External}
 use Rattle.script_text.specs.Answers.{Answers, IsCommandOf}
-use Rattle.script_text.specs.Laws.{CommandsAreWritten, CommandsHaveLines, IsLineOf}
+use Rattle.script_text.specs.Laws.{CommandsAreWritten, CommandsHaveLines, IsLineOf, LinesSpellOneCommand}
 use Rattle.script_text.specs.Meaning.{command_of_line, fault_of, first_fault, location_fault, meaning_of, mentions_fault, number_of_mention, selection_fault, shape_fault, signed_name, unless_faulty}
 use Rattle.script_text.specs.Reading.{phrase_of}
 use Rattle.script_text.specs.Spelling.{AreSewn, IsBare, IsLegal, IsShort, IsShortMention, IsSided, MayBeShort, Spells, spell_mention, spell_number, spelling}
@@ -24,7 +25,6 @@ use Rattle.script_text.specs.declared.phrase.Phrase.{Phrase}
 use Rattle.script_text.specs.declared.phrase.Phrase.TheVariants.{Replace, Remove, Merge, Sew, Apply, Undo}
 use Rattle.script_text.proofs.AnswerLaws.{answers, spelling_says}
 use Rattle.script_text.proofs.ReadingParts.{none_some}
-use Rattle.script_text.proofs.ReadingWhole.{phrase_back}
 use Rattle.script_text.proofs.WrittenWords.{joined_size, line_size_fits, size_of, spelling_back}
 
 abbrev gives : Command → Result (Option Command) LineFault
@@ -176,15 +176,16 @@ module _ (shapes locations : ℕ) where
     legal commands.Apply has = tt
     legal commands.Undo has = tt
 
-    read_back : (p : Phrase) → IsLegal p → fault_of shapes locations p ≡ None → command_of_line shapes locations (join_with_byte 32 (spelling p)) ≡ Ok (Some (meaning_of p))
-    read_back p is_legal free =
-        let read : phrase_of (spelling p) ≡ Some p = phrase_back (spelling p) p (record { spelled = refl; legal = is_legal }) in
-        rw (spelling_back p, spelling_says p, read, free) refl
+    module _ (lines : LinesSpellOneCommand) (plain : WrittenIsRead) where
+      read_back : (p : Phrase) → IsLegal p → fault_of shapes locations p ≡ None → command_of_line shapes locations (join_with_byte 32 (spelling p)) ≡ Ok (Some (meaning_of p))
+      read_back p is_legal free =
+          let read : phrase_of (spelling p) ≡ Some p = (lines.read (spelling p) p).1 (record { spelled = refl; legal = is_legal }) in
+          rw (spelling_back plain p, spelling_says p, read, free) refl
 
-    pub line_back : (c : Command) → HasLine shapes locations c → IsLineOf shapes locations (line_of_command c) c
-    line_back c has =
-        read_back (phrase_for c) (legal c has) (fault_free c has)
-        ∙ ap gives (meaning_back c)
+      pub line_back : (c : Command) → HasLine shapes locations c → IsLineOf shapes locations (line_of_command c) c
+      line_back c has =
+          read_back (phrase_for c) (legal c has) (fault_free c has)
+          ∙ ap gives (meaning_back c)
 
 -- ---- only such commands are given by lines
 
@@ -283,13 +284,14 @@ module _ (shapes locations : ℕ) where
   meant_there Apply is e = tt
   meant_there Undo is e = tt
 
-  command_there : (line : List ℕ) (c : Command) → IsLineOf shapes locations line c → IsCommandOf shapes locations (words_of line) c
-  command_there line c e = subst (Answers shapes locations (words_of line)) e (answers shapes locations line)
+  module _ (lines : LinesSpellOneCommand) where
+    command_there : (line : List ℕ) (c : Command) → IsLineOf shapes locations line c → IsCommandOf shapes locations (words_of line) c
+    command_there line c e = subst (Answers shapes locations (words_of line)) e (answers lines shapes locations line)
 
-  pub only_there : (line : List ℕ) (c : Command) → IsLineOf shapes locations line c → HasLine shapes locations c
-  only_there line c e =
-      let is = command_there line c e in
-      subst (HasLine shapes locations) (sym is.1.1.1) (meant_there is.0 is.1.0.legal is.1.1.0)
+    pub only_there : (line : List ℕ) (c : Command) → IsLineOf shapes locations line c → HasLine shapes locations c
+    only_there line c e =
+        let is = command_there line c e in
+        subst (HasLine shapes locations) (sym is.1.1.1) (meant_there is.0 is.1.0.legal is.1.1.0)
 
 -- ---- no line of a command is shorter than the one that is written
 
@@ -365,15 +367,16 @@ line_shorter line p is =
 same_command : (c d : Command) → gives c ≡ gives d → c ≡ d
 same_command c d e = cc
 
-written : (shapes locations : ℕ) → IsShort shapes → IsShort locations → CommandsAreWritten shapes locations
-written shapes locations few_shapes few_locations = record {
-  back = line_back shapes locations few_shapes few_locations;
-  only = only_there shapes locations;
-  shortest = λ line c e. (let is = command_there shapes locations line c e in
-      subst (λ (d : Command). length (line_of_command d) ≤ length line) (sym is.1.1.1) (line_shorter line is.0 is.1.0));
-  told = λ c d has_c has_d same. same_command c d
-      (sym (line_back shapes locations few_shapes few_locations c has_c) ∙ ap (command_of_line shapes locations) same ∙ line_back shapes locations few_shapes few_locations d has_d);
-}
+module _ (lines : LinesSpellOneCommand) (plain : WrittenIsRead) where
+  written : (shapes locations : ℕ) → IsShort shapes → IsShort locations → CommandsAreWritten shapes locations
+  written shapes locations few_shapes few_locations = record {
+    back = line_back shapes locations few_shapes few_locations lines plain;
+    only = only_there shapes locations lines;
+    shortest = λ line c e. (let is = command_there shapes locations lines line c e in
+        subst (λ (d : Command). length (line_of_command d) ≤ length line) (sym is.1.1.1) (line_shorter line is.0 is.1.0));
+    told = λ c d has_c has_d same. same_command c d
+        (sym (line_back shapes locations few_shapes few_locations lines plain c has_c) ∙ ap (command_of_line shapes locations) same ∙ line_back shapes locations few_shapes few_locations lines plain d has_d);
+  }
 
-pub commands_have_lines : CommandsHaveLines
-commands_have_lines = written
+  pub commands_have_lines : CommandsHaveLines
+  commands_have_lines = written

@@ -6,8 +6,7 @@ use Rattle.std.proofs.lemmas.Bool.{ltb-true}
 use Rattle.std.proofs.lemmas.Bool.Decides.{nat_tests}
 use Rattle.std.proofs.lemmas.List.{append-nil, length-append}
 use Rattle.brep_tokens.specs.Bytes.{is_dark, is_sign}
-use Rattle.brep_tokens.specs.Written.{IsDarkWord, is_dark_word, IsPlain}
-use Rattle.brep_tokens.proofs.PlainWords.{numbers, use_signs}
+use Rattle.brep_tokens.specs.Written.{IsDarkWord, is_dark_word, IsPlain, WrittenIsRead}
 use Rattle.orientation.specs.Turns.{sign_of}
 use Rattle.orientation.specs.declared.turn.Turn.{Turn}
 use Rattle.orientation.specs.declared.turn.Turn.TheVariants.{Forward, Reversed, Internal, External}
@@ -74,51 +73,52 @@ joined_after old begun done verb ws vs begins same whole =
 plain_dark : (w : List ℕ) → IsPlain w → IsDarkWord w
 plain_dark w is = (both_true (is_dark_word w) _ is).0
 
-number_dark : (n : ℕ) → IsDarkWord (decimal n)
-number_dark n = plain_dark (decimal n) (numbers n)
-
 sign_is : (t : Turn) → is_sign (sign_of t) ≡ true
 sign_is Forward = refl
 sign_is Reversed = refl
 sign_is Internal = refl
 sign_is External = refl
 
-mention_by : (s : Option Turn) (n : ℕ) → IsDarkWord (spell_mention (record { sign = s; number = n }))
-mention_by None n = number_dark n
-mention_by (Some t) n = plain_dark (sign_of t ∷ decimal n) (use_signs (sign_of t) n (sign_is t))
+module _ (written : WrittenIsRead) where
+  number_dark : (n : ℕ) → IsDarkWord (decimal n)
+  number_dark n = plain_dark (decimal n) (written.numbers n)
 
-mention_dark : (m : Mention) → IsDarkWord (spell_mention m)
-mention_dark m = mention_by m.sign m.number
+  mention_by : (s : Option Turn) (n : ℕ) → IsDarkWord (spell_mention (record { sign = s; number = n }))
+  mention_by None n = number_dark n
+  mention_by (Some t) n = plain_dark (sign_of t ∷ decimal n) (written.use_signs (sign_of t) n (sign_is t))
 
-mentions_dark : (ms : List Mention) → AllByRecursion IsDarkWord (map spell_mention ms)
-mentions_dark [] = tt
-mentions_dark (m ∷ ms) = (mention_dark m, mentions_dark ms)
+  mention_dark : (m : Mention) → IsDarkWord (spell_mention m)
+  mention_dark m = mention_by m.sign m.number
 
-number_then : (word : List ℕ) (o : Option ℕ) (rest : List (List ℕ)) → IsDarkWord word → AllByRecursion IsDarkWord rest → AllByRecursion IsDarkWord (spell_number word o ++ rest)
-number_then word None rest is further = further
-number_then word (Some n) rest is further = (is, (number_dark n, further))
+  mentions_dark : (ms : List Mention) → AllByRecursion IsDarkWord (map spell_mention ms)
+  mentions_dark [] = tt
+  mentions_dark (m ∷ ms) = (mention_dark m, mentions_dark ms)
 
-number_alone : (word : List ℕ) (o : Option ℕ) → IsDarkWord word → AllByRecursion IsDarkWord (spell_number word o)
-number_alone word None is = tt
-number_alone word (Some n) is = (is, (number_dark n, tt))
+  number_then : (word : List ℕ) (o : Option ℕ) (rest : List (List ℕ)) → IsDarkWord word → AllByRecursion IsDarkWord rest → AllByRecursion IsDarkWord (spell_number word o ++ rest)
+  number_then word None rest is further = further
+  number_then word (Some n) rest is further = (is, (number_dark n, further))
 
-pub spelling_dark : (p : Phrase) → AllByRecursion IsDarkWord (spelling p)
-spelling_dark (Replace s place t l) = (
-  refl,
-  (
-    mention_dark s,
-    number_then (codes "at") place (codes "by" ∷ spell_mention t ∷ spell_number (codes "loc") l) refl
-        (refl, (mention_dark t, number_alone (codes "loc") l refl)),
-  ),
-)
-spelling_dark (Remove s place) = (refl, (mention_dark s, number_alone (codes "at") place refl))
-spelling_dark (Merge ms) = (refl, mentions_dark ms)
-spelling_dark (Sew ms) = (refl, mentions_dark ms)
-spelling_dark Apply = (refl, tt)
-spelling_dark Undo = (refl, tt)
+  number_alone : (word : List ℕ) (o : Option ℕ) → IsDarkWord word → AllByRecursion IsDarkWord (spell_number word o)
+  number_alone word None is = tt
+  number_alone word (Some n) is = (is, (number_dark n, tt))
 
-pub spelling_back : (p : Phrase) → words_of (join_with_byte 32 (spelling p)) ≡ spelling p
-spelling_back p = words_back (spelling p) (spelling_dark p)
+  pub spelling_dark : (p : Phrase) → AllByRecursion IsDarkWord (spelling p)
+  spelling_dark (Replace s place t l) = (
+    refl,
+    (
+      mention_dark s,
+      number_then (codes "at") place (codes "by" ∷ spell_mention t ∷ spell_number (codes "loc") l) refl
+          (refl, (mention_dark t, number_alone (codes "loc") l refl)),
+    ),
+  )
+  spelling_dark (Remove s place) = (refl, (mention_dark s, number_alone (codes "at") place refl))
+  spelling_dark (Merge ms) = (refl, mentions_dark ms)
+  spelling_dark (Sew ms) = (refl, mentions_dark ms)
+  spelling_dark Apply = (refl, tt)
+  spelling_dark Undo = (refl, tt)
+
+  pub spelling_back : (p : Phrase) → words_of (join_with_byte 32 (spelling p)) ≡ spelling p
+  spelling_back p = words_back (spelling p) (spelling_dark p)
 
 -- ---- sizes
 

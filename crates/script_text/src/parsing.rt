@@ -6,6 +6,7 @@ ghost use Rattle.script_text.specs.Meaning.{Gives, OrNoMemory, command_of_line, 
 ghost use Rattle.script_text.specs.declared.command.Command.TheVariants as commands;
 
 use crate::command::{Command, LineFault, Sel, SignedName, Tgt};
+use crate::laws::lines_spell_one_command;
 use crate::line_words::says_nothing;
 use crate::name_lists::{Names, SignedNames};
 use crate::phrase::{Mention, Phrase};
@@ -194,5 +195,6 @@ pub fn parse(
     ensures spelled { Answers shapes locations (words_of line.now) result }
     ensures nothing { is_nothing (words_of line.now) ≡ true → result ≡ Ok None }
 {
+    lines_spell_one_command();
     parsed(alloc, line, shapes, locations)
 }

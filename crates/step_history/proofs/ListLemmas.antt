@@ -10,7 +10,6 @@ use Rattle.expansion_laws.specs.Trees.{Tree, Use, uses}
 use Rattle.expansion_laws.specs.Equality.{tree_eq}
 use Rattle.expansion_laws.specs.Measures.{subtrees, OccursIn, StandsBelow}
 use Rattle.expansion_laws.specs.Requests.{Act, remove, replace, Request}
-use Rattle.expansion_laws.proofs.TreeEquality.{tree_eq-same, tree_eq-itself}
 use Rattle.step_history.specs.History.{IsSupported, IsGone}
 use Rattle.step_history.specs.SlowHistory.{is_supported, occurs, act_replaces, match_replaces, trees_below, is_first_in, gone_listed, modified_listed}
 
@@ -47,13 +46,17 @@ of-supported k (inr (inl e)) = ap is_supported e
 of-supported k (inr (inr (inl e))) = ap is_supported e
 of-supported k (inr (inr (inr e))) = ap is_supported e
 
-pub occurs-of : (x whole : Tree) → occurs x whole ≡ true → OccursIn x whole
-occurs-of x whole e =
-    let f = list_any-found (λ z. tree_eq z x) (subtrees whole) e in
-    subst (λ z. Contains (subtrees whole) z) (tree_eq-same f.0 x f.2) f.1
+abbrev pub EqualTreesTell : Type 0
+EqualTreesTell = (x y : Tree) → (tree_eq x y ≡ true) ↔ (x ≡ y)
 
-pub of-occurs : (x whole : Tree) → OccursIn x whole → occurs x whole ≡ true
-of-occurs x whole m = list_any-contains (λ z. tree_eq z x) x (subtrees whole) m (tree_eq-itself x)
+module _ (tells : EqualTreesTell) where
+  pub occurs-of : (x whole : Tree) → occurs x whole ≡ true → OccursIn x whole
+  occurs-of x whole e =
+      let f = list_any-found (λ z. tree_eq z x) (subtrees whole) e in
+      subst (λ z. Contains (subtrees whole) z) ((tells f.0 x).0 f.2) f.1
+
+  pub of-occurs : (x whole : Tree) → OccursIn x whole → occurs x whole ≡ true
+  of-occurs x whole m = list_any-contains (λ z. tree_eq z x) x (subtrees whole) m ((tells x x).1 refl)
 
 pub below-of : (x above : Tree) → Contains (trees_below above) x → StandsBelow x above
 below-of x above m = Contains-flat_map_cases (λ (u : Use). subtrees u.tree) x (uses above) m
@@ -89,27 +92,27 @@ false-of true e = absurd cc
 false-of false e = refl
 
 -- ---- modified pairs and trees that are gone, where the list has the pairs of the relation
-module _ (R : Tree → Tree → Type 0) (pairs : List (Tree × Tree)) (same : (t x : Tree) → R t x ↔ Contains pairs (t, x)) where
+module _ (tells : EqualTreesTell) (R : Tree → Tree → Type 0) (pairs : List (Tree × Tree)) (same : (t x : Tree) → R t x ↔ Contains pairs (t, x)) where
   pub modified-listed : (t x : Tree) → (R t x × (t ≢ x)) ↔ Contains (modified_listed pairs) (t, x)
   modified-listed t x = (to, from)
     where
       to : R t x × (t ≢ x) → Contains (modified_listed pairs) (t, x)
       to m =
           Contains-filter (λ (p : Tree × Tree). not (tree_eq p.0 p.1)) pairs (t, x) ((same t x).0 m.0)
-          (not-true (tree_eq t x) (λ e. m.1 (tree_eq-same t x e)))
+          (not-true (tree_eq t x) (λ e. m.1 ((tells t x).0 e)))
 
       from : Contains (modified_listed pairs) (t, x) → R t x × (t ≢ x)
       from m =
           let f = Contains-filter_cases (λ (p : Tree × Tree). not (tree_eq p.0 p.1)) pairs (t, x) m in
-          ((same t x).1 f.0, λ e. not-of (tree_eq t x) f.1 (subst (λ z. tree_eq t z ≡ true) e (tree_eq-itself t)))
+          ((same t x).1 f.0, λ e. not-of (tree_eq t x) f.1 (subst (λ z. tree_eq t z ≡ true) e ((tells t t).1 refl)))
 
   has-first : (t : Tree) → is_first_in pairs t ≡ true → (x : Tree) × R t x
   has-first t e =
       let f = list_any-found (λ (p : Tree × Tree). tree_eq p.0 t) pairs e in
-      (f.0.1, subst (λ z. R z f.0.1) (tree_eq-same f.0.0 t f.2) ((same f.0.0 f.0.1).1 f.1))
+      (f.0.1, subst (λ z. R z f.0.1) ((tells f.0.0 t).0 f.2) ((same f.0.0 f.0.1).1 f.1))
 
   first-has : (t x : Tree) → R t x → is_first_in pairs t ≡ true
-  first-has t x r = list_any-contains (λ (p : Tree × Tree). tree_eq p.0 t) (t, x) pairs ((same t x).0 r) (tree_eq-itself t)
+  first-has t x r = list_any-contains (λ (p : Tree × Tree). tree_eq p.0 t) (t, x) pairs ((same t x).0 r) ((tells t t).1 refl)
 
   pub gone-listed : (kind_of : Tree → Kind) (before after t : Tree) → IsGone kind_of before after R t ↔ Contains (gone_listed kind_of before after pairs) t
   gone-listed kind_of before after t = (to, from)
@@ -120,7 +123,7 @@ module _ (R : Tree → Tree → Type 0) (pairs : List (Tree × Tree)) (same : (t
           (and-both (is_supported (kind_of t)) (not (is_first_in pairs t) && not (occurs t after)) (of-supported (kind_of t) g.0)
           (and-both (not (is_first_in pairs t)) (not (occurs t after))
           (not-true (is_first_in pairs t) (λ e. let i = has-first t e in g.2 i.0 i.1))
-          (not-true (occurs t after) (λ e. g.3 (occurs-of t after e)))))
+          (not-true (occurs t after) (λ e. g.3 ((occurs-of tells) t after e)))))
 
       from : Contains (gone_listed kind_of before after pairs) t → IsGone kind_of before after R t
       from m =
@@ -130,5 +133,5 @@ module _ (R : Tree → Tree → Type 0) (pairs : List (Tree × Tree)) (same : (t
             supported-of (kind_of t) p.0,
             f.0,
             (λ x r. not-of (is_first_in pairs t) q.0 (first-has t x r)),
-            (λ o. not-of (occurs t after) q.1 (of-occurs t after o)),
+            (λ o. not-of (occurs t after) q.1 ((of-occurs tells) t after o)),
           )

@@ -1,5 +1,5 @@
 -- The lists of the slow history have just what the change's history does.
-use Rattle.std.proofs.Common.{◌≡◌, sym, ap, subst, inl, inr, ◌∙◌}
+use Rattle.std.proofs.Common.{◌≡◌, refl, sym, ap, subst, inl, inr, ◌∙◌}
 use Rattle.std.specs.Prelude.{◌↔◌, ◌<◌, ◌&&◌, not, nat_lt, ℕ, suc, Bool, true, Some, is_none, unwrap_or, List, [], map, filter, Contains}
 use Rattle.std.specs.List.{flat_map}
 use Rattle.std.proofs.lemmas.List.Elements.{Contains-append_left, Contains-append_right, Contains-append_cases}
@@ -7,7 +7,7 @@ use Rattle.lists.proofs.Tests.{list_any-contains, list_any-found, Contains-filte
 use Rattle.lists.proofs.Members.{Contains-flat_map, Contains-flat_map_cases, Contains-map, Contains-map_cases}
 use Rattle.orientation.specs.declared.kind.Kind.{Kind}
 use Rattle.orientation.specs.Kinds.{rank_of}
-use Rattle.location_words.proofs.WordLaws.{IsWord-mul}
+use Rattle.location_words.specs.Laws.{WordsAreAGroup}
 use Rattle.expansion_laws.specs.Trees.{Tree, Use}
 use Rattle.expansion_laws.specs.Equality.{tree_eq}
 use Rattle.expansion_laws.specs.Measures.{OccursIn, StandsBelow}
@@ -15,25 +15,24 @@ use Rattle.expansion_laws.specs.Contexts.{Context, at_root, inside, bare}
 use Rattle.expansion_laws.specs.Requests.{match_of}
 use Rattle.expansion_laws.specs.Steps.{Step, kind, is_entered}
 use Rattle.expansion_laws.specs.Rewriting.{results_within, RelativeResults}
+use Rattle.expansion_laws.specs.RewritingLaws.{IsDetermined}
 use Rattle.expansion_laws.specs.Visits.{IsVisit, IsStopped, IsResult, IsImage, IsReplaced}
-use Rattle.expansion_laws.specs.WholeVisits.{is_whole}
-use Rattle.expansion_laws.proofs.TreeEquality.{tree_eq-same, tree_eq-itself}
-use Rattle.expansion_laws.proofs.LevelLemmas.{Rewrites-one}
-use Rattle.expansion_laws.proofs.WholeLemmas.{whole-lists}
+use Rattle.expansion_laws.specs.WholeVisits.{is_whole, WholeListsHoldAll}
 use Rattle.step_history.specs.History.{IsSupported, images_of, generated_of, history_of}
 use Rattle.step_history.specs.Changes.{by_requests}
 use Rattle.step_history.specs.SlowHistory.{is_supported, occurs, match_replaces, trees_below, all_visits, pairs_of, stops, kept_below, image_list, replaced_list, is_of_input, is_new, images_listed, came_new, generated_listed, lists_of, ListsHistory, SlowHistoryIsTheChanges}
-use Rattle.step_history.proofs.ListLemmas.{and-parts, and-both, not-of, not-true, supported-of, of-supported, occurs-of, of-occurs, below-of, of-below, lower-of, of-lower, replaces-of, of-replaces, none-of, false-of, modified-listed, gone-listed}
+use Rattle.step_history.proofs.ListLemmas.{EqualTreesTell, and-parts, and-both, not-of, not-true, supported-of, of-supported, occurs-of, of-occurs, below-of, of-below, lower-of, of-lower, replaces-of, of-replaces, none-of, false-of, modified-listed, gone-listed}
 
-module _ (s : Step) (n : ℕ) (root : Use) (whole : is_whole s n root.tree (inside at_root root) ≡ true) where
+module _ (group : WordsAreAGroup) (hold : (s : Step) → WholeListsHoldAll s) (determined : (s : Step) → IsDetermined s) (s : Step) (n : ℕ) (root : Use)
+    (whole : is_whole s n root.tree (inside at_root root) ≡ true) where
   visited : (v : Tree × Context) → Contains (all_visits s n root) v → IsVisit s root v.0 v.1
-  visited v m = (whole-lists s n root.tree v.0 (inside at_root root) v.1 whole (IsWord-mul [] root.word)).0.1 m
+  visited v m = (hold s n root.tree v.0 (inside at_root root) v.1 whole (group.product_is_word [] root.word)).0.1 m
 
   listed : (x : Tree) (here : Context) → IsVisit s root x here → Contains (all_visits s n root) (x, here)
-  listed x here l = (whole-lists s n root.tree x (inside at_root root) here whole (IsWord-mul [] root.word)).0.0 l
+  listed x here l = (hold s n root.tree x (inside at_root root) here whole (group.product_is_word [] root.word)).0.0 l
 
   has-results : (x : Tree) (here : Context) → IsVisit s root x here → (a : List Use) × (results_within s (suc n) here (bare x) ≡ Some a)
-  has-results x here l = (whole-lists s n root.tree x (inside at_root root) here whole (IsWord-mul [] root.word)).1 l
+  has-results x here l = (hold s n root.tree x (inside at_root root) here whole (group.product_is_word [] root.word)).1 l
 
   -- a visit's pairs are its tree with the trees of its results
   pairs-are : (x : Tree) (here : Context) (a : List Use) → results_within s (suc n) here (bare x) ≡ Some a → pairs_of s n root (x, here) ≡ map (λ r. (x, r.tree)) a
@@ -43,7 +42,7 @@ module _ (s : Step) (n : ℕ) (root : Use) (whole : is_whole s n root.tree (insi
       Contains (pairs_of s n root (x, here)) (x, y)
   pair-there x y here results l r m =
       let t = has-results x here l in
-      let same : results ≡ t.0 = Rewrites-one s here (bare x) results t.0 r (suc n, t.1) in
+      let same : results ≡ t.0 = determined s here (bare x) results t.0 r (suc n, t.1) in
       let at = Contains-map_cases (λ (r : Use). r.tree) y results m in
       subst (λ ps. Contains {X = Tree × Tree} ps (x, y)) (sym (pairs-are x here t.0 t.1))
       (subst (λ z. Contains {X = Tree × Tree} (map (λ (r : Use). (x, r.tree)) t.0) (x, z)) at.2 (Contains-map (λ (r : Use). (x, r.tree)) at.0 t.0 (subst (λ l. Contains l at.0) same at.1)))
@@ -118,7 +117,7 @@ module _ (s : Step) (n : ℕ) (root : Use) (whole : is_whole s n root.tree (insi
       subst (λ z. IsReplaced s root z y) p.2 (v.0.1, r.0, r.1, p.0, l, r.2, r.3, p.1, p.3)
 
 -- ---- the lists of a history, from lists of its relations
-module _ (kind_of : Tree → Kind) (before after : Tree) (Image Replaced : Tree → Tree → Type 0) (imaged replaced : List (Tree × Tree))
+module _ (tells : EqualTreesTell) (kind_of : Tree → Kind) (before after : Tree) (Image Replaced : Tree → Tree → Type 0) (imaged replaced : List (Tree × Tree))
     (to : (x y : Tree) → Image x y → Contains imaged (x, y)) (from : (x y : Tree) → Contains imaged (x, y) → Image x y)
     (to_replaced : (x y : Tree) → Replaced x y → Contains replaced (x, y))
     (from_replaced : (x y : Tree) → Contains replaced (x, y) → Replaced x y) where
@@ -136,11 +135,11 @@ module _ (kind_of : Tree → Kind) (before after : Tree) (Image Replaced : Tree 
 
   input-of : (t : Tree) → in_input t ≡ true → IsSupported (kind_of t) × OccursIn t before
   unfolding in_input
-  input-of t e = let p = and-parts (is_supported (kind_of t)) (occurs t before) e in (supported-of (kind_of t) p.0, occurs-of t before p.1)
+  input-of t e = let p = and-parts (is_supported (kind_of t)) (occurs t before) e in (supported-of (kind_of t) p.0, (occurs-of tells) t before p.1)
 
   of-input : (t : Tree) → IsSupported (kind_of t) → OccursIn t before → in_input t ≡ true
   unfolding in_input
-  of-input t k o = and-both (is_supported (kind_of t)) (occurs t before) (of-supported (kind_of t) k) (of-occurs t before o)
+  of-input t k o = and-both (is_supported (kind_of t)) (occurs t before) (of-supported (kind_of t) k) ((of-occurs tells) t before o)
 
   -- an image of a tree that the input doesn't have, whichever it is
   new-of : (x : Tree) → new x ≡ true → (q : Tree) × (OccursIn q before → ⊥) × Image q x
@@ -149,15 +148,15 @@ module _ (kind_of : Tree → Kind) (before after : Tree) (Image Replaced : Tree 
       let f = list_any-found (λ (q : Tree × Tree). tree_eq q.1 x && not (occurs q.0 before)) imaged e in
       let p = and-parts (tree_eq f.0.1 x) (not (occurs f.0.0 before)) f.2 in (
         f.0.0,
-        (λ o. not-of (occurs f.0.0 before) p.1 (of-occurs f.0.0 before o)),
-        subst (λ z. Image f.0.0 z) (tree_eq-same f.0.1 x p.0) (from f.0.0 f.0.1 f.1),
+        (λ o. not-of (occurs f.0.0 before) p.1 ((of-occurs tells) f.0.0 before o)),
+        subst (λ z. Image f.0.0 z) ((tells f.0.1 x).0 p.0) (from f.0.0 f.0.1 f.1),
       )
 
   of-new : (q x : Tree) → (OccursIn q before → ⊥) → Image q x → new x ≡ true
   unfolding new
   of-new q x h i =
       list_any-contains (λ (q : Tree × Tree). tree_eq q.1 x && not (occurs q.0 before)) (q, x) imaged (to q x i)
-      (and-both (tree_eq x x) (not (occurs q before)) (tree_eq-itself x) (not-true (occurs q before) (λ e. h (occurs-of q before e))))
+      (and-both (tree_eq x x) (not (occurs q before)) ((tells x x).1 refl) (not-true (occurs q before) (λ e. h ((occurs-of tells) q before e))))
 
   came-of : (t x : Tree) → came t x ≡ true → IsSupported (kind_of x) × (rank_of (kind_of x) < rank_of (kind_of t)) × (new x ≡ true)
   unfolding came new lower
@@ -225,12 +224,13 @@ module _ (kind_of : Tree → Kind) (before after : Tree) (Image Replaced : Tree 
   pub listed-is : ListsHistory (lists_of kind_of before after imaged replaced) (history_of kind_of before after Image Replaced)
   listed-is = record {
     images = images-same;
-    modified = modified-listed (images_of kind_of before after Image Replaced) (images_listed kind_of before after imaged replaced) images-same;
+    modified = (modified-listed tells) (images_of kind_of before after Image Replaced) (images_listed kind_of before after imaged replaced) images-same;
     generated = λ t x. (generated-to t x, generated-from t x);
-    removed = gone-listed (images_of kind_of before after Image Replaced) (images_listed kind_of before after imaged replaced) images-same kind_of before after;
+    removed = (gone-listed tells) (images_of kind_of before after Image Replaced) (images_listed kind_of before after imaged replaced) images-same kind_of before after;
   }
 
-pub slow-is : SlowHistoryIsTheChanges
-slow-is (by_requests s) n before after whole =
-    listed-is (kind s) before.tree after.tree (IsImage s before) (IsReplaced s before) (image_list s n before) (replaced_list s n before)
-    (image-listed s n before whole) (listed-image s n before whole) (replaced-listed s n before whole) (listed-replaced s n before whole)
+module _ (tells : EqualTreesTell) (group : WordsAreAGroup) (hold : (s : Step) → WholeListsHoldAll s) (determined : (s : Step) → IsDetermined s) where
+  pub slow-is : SlowHistoryIsTheChanges
+  slow-is (by_requests s) n before after whole =
+      listed-is tells (kind s) before.tree after.tree (IsImage s before) (IsReplaced s before) (image_list s n before) (replaced_list s n before)
+      (image-listed group hold determined s n before whole) (listed-image group hold determined s n before whole) (replaced-listed group hold determined s n before whole) (listed-replaced group hold determined s n before whole)

@@ -19,7 +19,7 @@ use Rattle.tshape_data.specs.declared.head.FaceData.{FaceData}
 use Rattle.tshape_data.specs.declared.head.Payload.TheVariants.{Vertex, Edge, Face}
 use Rattle.written_locations.specs.declared.written.WrittenLocations.{WrittenLocations}
 use Rattle.written_locations.specs.Added.{Adds}
-use Rattle.written_locations.proofs.Adding.{adds-more}
+use Rattle.written_locations.specs.Laws.{AddedPartsJoin}
 use Rattle.written_heads.specs.Named.{edge_locations, point_locations}
 
 pub on_ok : {A E P Q : Type 0} (r : Result A E) → (P → Q) → OnOk r P → OnOk r Q
@@ -51,15 +51,15 @@ all_within P f xs h k d lt j e short =
 take-one : {X : Type 0} (xs : List X) (i : ℕ) (d : X) → i < length xs → take (i + 1) xs ≡ take i xs ++ slice_index_or xs i d ∷ []
 take-one xs i d lt = rw add-one (take-suc xs i d lt)
 
-pub adds_more : {X : Type 0} (locations : X → List ℕ) (xs : List X) (i : ℕ) (x : X) (s t u : WrittenLocations) → i < length xs → x ≡ slice_index_or xs i x →
+pub adds_more : AddedPartsJoin → {X : Type 0} (locations : X → List ℕ) (xs : List X) (i : ℕ) (x : X) (s t u : WrittenLocations) → i < length xs → x ≡ slice_index_or xs i x →
     Adds (flat_map locations (take i xs)) s t → Adds (locations x) t u → Adds (flat_map locations (take (i + 1) xs)) s u
-adds_more {X} locations xs i x s t u lt is a b =
+adds_more add {X} locations xs i x s t u lt is a b =
     subst (λ l. Adds l s u)
     (sym (ap (flat_map locations) (take-one xs i x lt)
     ∙ flat_map-append locations (take i xs) (slice_index_or xs i x ∷ [])
     ∙ ap (λ l. flat_map locations (take i xs) ++ l) (append-nil (locations (slice_index_or xs i x)))
     ∙ ap (λ (y : X). flat_map locations (take i xs) ++ locations y) (sym is)))
-    (adds-more (flat_map locations (take i xs)) (locations x) s t u a b)
+    (add.joined (flat_map locations (take i xs)) (locations x) s t u a b)
 
 -- ---- the locations among parts
 tokens-none : (texts : List (List ℕ)) → flat_map location_of_part (tokens texts) ≡ []

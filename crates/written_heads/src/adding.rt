@@ -7,6 +7,7 @@ ghost use Rattle.written_locations.specs.Added.{IsNumbering, Adds};
 
 use std::alloc::AllocError;
 use tshape_data::{EdgeRep, Head, Payload, PointRep};
+use written_locations::laws::added_parts_join;
 use written_locations::WrittenLocations;
 
 /// The location of a vertex's representation.
@@ -29,6 +30,7 @@ fn add_point_locations(
     requires named { All (λ p. All (λ place. place ≤ length locations.old.section.now) (point_locations p)) points.now }
     ensures { OnOk result (Adds (flat_map point_locations points.now) locations.old locations.new) }
 {
+    added_parts_join();
     for point in points {
         locations.add(point_location(point))?;
     }
@@ -53,6 +55,7 @@ fn add_edge_rep_locations(
             second_location,
             ..
         } => {
+            added_parts_join();
             locations.add(*first_location)?;
             locations.add(*second_location)
         }
@@ -71,6 +74,7 @@ fn add_edge_reps_locations(
     requires named { All (λ r. All (λ place. place ≤ length locations.old.section.now) (edge_locations r)) reps.now }
     ensures { OnOk result (Adds (flat_map edge_locations reps.now) locations.old locations.new) }
 {
+    added_parts_join();
     for rep in reps {
         add_edge_rep_locations(locations, rep)?;
     }

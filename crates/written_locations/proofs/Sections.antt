@@ -6,7 +6,7 @@ use Rattle.std.specs.Cmp.{signed_Decides}
 use Rattle.std.specs.Ordering.{int_eq}
 use Rattle.std.proofs.lemmas.List.{length-append, length-map}
 use Rattle.std.proofs.lemmas.Option.{unwrap_or-slice_get}
-use Rattle.lists.proofs.Members.{Contains-here, Contains-none, Contains-there}
+use Rattle.lists.proofs.Members.{Contains-none}
 use Rattle.lists.proofs.Cases.{by_test}
 use Rattle.entry_readers.specs.Begins.{AreDecimals}
 use Rattle.location_words.specs.declared.pair.Pair.{Pair}
@@ -18,14 +18,11 @@ use Rattle.location_table.specs.Locations.{AreSoundAfter, AreSoundLocations}
 use Rattle.location_table.specs.Words.{at_place, datum_word, datums_of, words_of, word_of_place}
 use Rattle.location_table.specs.Written.{IsWordOver, datum_words, product_of, written_section}
 use Rattle.written_locations.specs.Further.{fixed_number, place_in, number_of_word}
+use Rattle.written_locations.specs.Laws.{NumbersArePlaces}
 use Rattle.written_locations.proofs.Words.{Word, by_fixed, some-none}
 use Rattle.written_locations.proofs.Numbers.{place-has, place-within, fixed-number, open-number}
 
 -- ---- lists
-pub each-member : {X : Type 0} (P : X → Type 0) (xs : List X) → ((x : X) → Contains xs x → P x) → AllByRecursion P xs
-each-member P [] h = tt
-each-member P (x ∷ xs) h = (h x (Contains-here x xs), each-member P xs (λ y m. h y (Contains-there x y xs m)))
-
 get-after : {X : Type 0} (xs ys : List X) (i : ℕ) → slice_get (xs ++ ys) (length xs + i) ≡ slice_get ys i
 get-after [] ys i = (let e : 0 + i ≡ i = omega arith in ap (slice_get ys) e)
 get-after (x ∷ xs) ys i = (let e : length (x ∷ xs) + i ≡ suc (length xs + i) = omega arith in ap (slice_get (x ∷ (xs ++ ys))) e ∙ get-after xs ys i)
@@ -131,3 +128,6 @@ module _ (law : WrittenIsHeld) (datums : List (List (List ℕ))) (further : List
           let high = over_it.over.0.1 in omega (arith, same, high)))
           (λ t. (let none : fixed_number (p ∷ []) ≡ None = ap (λ b. if b then Some p.datum else None) t in absurd (some-none e none)))
       fixed-few (p ∷ q ∷ v) over_it k e = absurd (some-none e refl)
+
+pub numbers_are_places : WrittenIsHeld → NumbersArePlaces
+numbers_are_places law = record { size = length-written; within = place-within_section law; word = place-of_word law }

@@ -1,7 +1,6 @@
 use Rattle.std.proofs.Common.{◌≤◌, [], ◌∷◌, refl, sym, ap, subst}
 use Rattle.std.specs.Prelude.{length}
 use Rattle.written_locations.specs.Added.{Adds}
-use Rattle.written_locations.proofs.Adding.{adds-more}
 use Rattle.written_heads.specs.Named.{edge_locations}
 use Rattle.written_heads.proofs.LocationLemmas.{named, named_second, on_ok}
 use Rattle.written_heads.proofs.adding.add_edge_rep_locations.Goals as goal
@@ -37,5 +36,5 @@ pub returns-in_ok-add-in-Joint : goal.returns-in_ok-add-in-Joint
 returns-in_ok-add-in-Joint c =
     on_ok c.add-in-Joint-2.result
     (λ m. subst (λ l. Adds l c.args.locations.now c.add-in-Joint-2.new.self) (sym (ap edge_locations c.in-Joint.is))
-    (adds-more (c.in-Joint.first_location ∷ []) (c.in-Joint.second_location ∷ []) c.args.locations.now c.add-in-Joint.new.self c.add-in-Joint-2.new.self c.in_ok-add-in-Joint.ensures m))
+    (c.in-Joint-added_parts_join.ensures.joined (c.in-Joint.first_location ∷ []) (c.in-Joint.second_location ∷ []) c.args.locations.now c.add-in-Joint.new.self c.add-in-Joint-2.new.self c.in_ok-add-in-Joint.ensures m))
     c.add-in-Joint-2.ensures

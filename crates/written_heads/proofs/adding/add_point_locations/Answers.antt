@@ -17,5 +17,5 @@ add-requires-clause-place c =
 
 pub loop-point-preserved : goal.loop-point-preserved
 loop-point-preserved c =
-    adds_more point_locations c.args.points.now c.loop-point.point-index c.point-item.result c.args.locations.now c.loop-point.locations c.add.new.self c.loop-point-test.true c.point-item.is
+    adds_more c.added_parts_join.ensures point_locations c.args.points.now c.loop-point.point-index c.point-item.result c.args.locations.now c.loop-point.locations c.add.new.self c.loop-point-test.true c.point-item.is
     c.loop-point.invariant (subst (λ l. Adds l c.loop-point.locations c.add.new.self) (sym c.point_location.ensures) c.in_ok-add.ensures)
