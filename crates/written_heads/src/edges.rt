@@ -212,7 +212,8 @@ pub(crate) fn push_edge_reps(
 ) -> Result<(), AllocError>
     requires numbering { IsNumbering locations.now }
     requires writable { All (IsWritableEdge locations.now version) reps.now }
-    ensures { OnOk result (text.new.items ≡ text.old.items ++ flat_map (written_edge_rep locations.now version) reps.now) }
+    ensures { OnOk result (text.new.items ≡ text.old.items
+        ++ flat_map (written_edge_rep locations.now version) reps.now) }
 {
     for rep in reps {
         push_edge_rep(text, rep, version, locations)?;
