@@ -32,18 +32,8 @@ one_word a l = ap (λ t. 32 ∷ (t ++ 32 ∷ l)) (sym (append-nil a))
 two_words : (a b l : List ℕ) → 32 ∷ (a ++ 32 ∷ (b ++ 32 ∷ l)) ≡ (32 ∷ (a ++ 32 ∷ (b ++ []))) ++ 32 ∷ l
 two_words a b l = ap (λ t. 32 ∷ (a ++ t)) (one_word b l) ∙ sym (ap (λ t. 32 ∷ t) (append_assoc a (32 ∷ (b ++ [])) (32 ∷ l)))
 
-four_words : (a b d l : List ℕ) → 32 ∷ (a ++ 32 ∷ (b ++ 32 ∷ (d ++ 32 ∷ (l ++ [])))) ≡ (32 ∷ (a ++ 32 ∷ (b ++ 32 ∷ (d ++ [])))) ++ 32 ∷ l
-four_words a b d l =
-    ap (λ t. 32 ∷ (a ++ 32 ∷ (b ++ 32 ∷ (d ++ 32 ∷ t)))) (append-nil l)
-    ∙ ap (λ t. 32 ∷ (a ++ t)) (two_words b d l)
-    ∙ sym (ap (λ t. 32 ∷ t) (append_assoc a (32 ∷ (b ++ 32 ∷ (d ++ []))) (32 ∷ l)))
-
 -- ---- representations of edges
 module _ (renumber : ℕ → ℕ) where
-  pub seam_polygons : (r : EdgeRep) (a b mesh location : ℕ) → r ≡ edge_reps.SeamPolygons a b mesh location →
-      spaced (number_words (renumbered_edge_rep renumber r)) ≡ entries_text (a ∷ b ∷ mesh ∷ []) ++ 32 ∷ decimal (renumber location)
-  seam_polygons r a b mesh location is = ap (λ (e : EdgeRep). spaced (number_words (renumbered_edge_rep renumber e))) is ∙ four_words (decimal a) (decimal b) (decimal mesh) (decimal (renumber location))
-
   renumbered-form : (r : EdgeRep) → form_of_edge (renumbered_edge_rep renumber r) ≡ form_of_edge r
   renumbered-form (edge_reps.Curve curve location texts) = refl
   renumbered-form (edge_reps.Curve2 curve2 surface location texts) = refl

@@ -1,14 +1,14 @@
 //! The locations in a record's data are added.
 ghost use Rattle.std.specs.List.{flat_map};
-ghost use Rattle.std.specs.Prelude.{◌≡◌, ◌≤◌, ◌∷◌, ℕ, All, OnOk, [], length};
+ghost use Rattle.std.specs.Prelude.{◌≡◌, ◌∷◌, ℕ, All, OnOk, []};
 ghost use Rattle.tshape_data.specs.Locations.{data_locations};
-ghost use Rattle.written_heads.specs.Named.{edge_locations, point_locations};
+ghost use Rattle.written_heads.specs.Named.{AddsLocationsOf, AreInSection, edge_locations, point_locations};
 ghost use Rattle.written_locations.specs.Added.{IsNumbering, Adds};
 
 use std::alloc::AllocError;
 use tshape_data::{EdgeRep, Head, Payload, PointRep};
-use written_locations::laws::added_parts_join;
 use written_locations::WrittenLocations;
+use written_locations::laws::added_parts_join;
 
 /// The location of a vertex's representation.
 fn point_location(point: &PointRep) -> u32
@@ -27,7 +27,7 @@ fn add_point_locations(
     points: &[PointRep],
 ) -> Result<(), AllocError>
     requires numbering { IsNumbering locations.old }
-    requires named { All (λ p. All (λ place. place ≤ length locations.old.section.now) (point_locations p)) points.now }
+    requires named { All (λ p. AreInSection locations.old (point_locations p)) points.now }
     ensures { OnOk result (Adds (flat_map point_locations points.now) locations.old locations.new) }
 {
     added_parts_join();
@@ -43,7 +43,7 @@ fn add_edge_rep_locations(
     rep: &EdgeRep,
 ) -> Result<(), AllocError>
     requires numbering { IsNumbering locations.old }
-    requires named { All (λ place. place ≤ length locations.old.section.now) (edge_locations rep.now) }
+    requires named { AreInSection locations.old (edge_locations rep.now) }
     ensures { OnOk result (Adds (edge_locations rep.now) locations.old locations.new) }
 {
     match rep {
@@ -71,7 +71,7 @@ fn add_edge_reps_locations(
     reps: &[EdgeRep],
 ) -> Result<(), AllocError>
     requires numbering { IsNumbering locations.old }
-    requires named { All (λ r. All (λ place. place ≤ length locations.old.section.now) (edge_locations r)) reps.now }
+    requires named { All (λ r. AreInSection locations.old (edge_locations r)) reps.now }
     ensures { OnOk result (Adds (flat_map edge_locations reps.now) locations.old locations.new) }
 {
     added_parts_join();
@@ -87,8 +87,8 @@ pub fn add_head_locations(
     head: &Head,
 ) -> Result<(), AllocError>
     requires numbering { IsNumbering locations.old }
-    requires named { (version : ℕ) × All (λ place. place ≤ length locations.old.section.now) (data_locations version head.now.payload) }
-    ensures { OnOk result ((version : ℕ) → Adds (data_locations version head.now.payload) locations.old locations.new) }
+    requires named { (version : ℕ) × AreInSection locations.old (data_locations version head.now.payload) }
+    ensures { OnOk result (AddsLocationsOf head.now.payload locations.old locations.new) }
 {
     match &head.payload {
         Payload::Vertex(vertex) => add_point_locations(locations, vertex.points.as_slice()),

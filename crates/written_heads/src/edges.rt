@@ -1,17 +1,15 @@
 //! The lines of an edge's representations.
-ghost use Rattle.brep_tokens.specs.Written.{line_text, lines_text};
+ghost use Rattle.brep_tokens.specs.Written.{line_text};
 ghost use Rattle.std.specs.Fmt.{decimal};
 ghost use Rattle.std.specs.List.{flat_map};
 ghost use Rattle.std.specs.Prelude.{◌≡◌, ◌<◌, ◌≤◌, ◌∷◌, ◌++◌, All, OnOk, [], drop, length, take};
-ghost use Rattle.tshape_data.specs.Columns.{edge_number, edge_texts, p_curve_texts};
-ghost use Rattle.tshape_data.specs.Lines.{edge_rep_lines, number_words, uv_lines};
-ghost use Rattle.tshape_data.specs.Locations.{renumbered_edge_rep};
+ghost use Rattle.tshape_data.specs.Columns.{HasContinuity, IsPolygonal, edge_number, edge_texts, p_curve_texts};
 ghost use Rattle.tshape_data.specs.Reps.{form_of_edge, texts_of_edge};
 ghost use Rattle.written_heads.specs.Named.{edge_locations};
-ghost use Rattle.written_heads.specs.Words.{IsContinuous, IsWritableEdge, IsWritten, numbers_text, parameters_text, spaced};
-ghost use Rattle.written_locations.specs.Added.{IsNumbering, location_number};
+ghost use Rattle.written_heads.specs.Words.{IsContinuous, IsWritableEdge, IsWritten, decimals_text, parameters_text, spaced, written_edge_rep, written_numbers};
+ghost use Rattle.written_locations.specs.Added.{IsNumbering};
 
-use crate::fields::{continuity_word, push_decimal, push_entries, push_location};
+use crate::fields::{continuity_word, push_decimal, push_entries, push_located};
 use brep_tokens::Decimals;
 use std::alloc::AllocError;
 use tshape_data::EdgeRep;
@@ -41,26 +39,42 @@ fn push_columns(
     requires numbering { IsNumbering locations.now }
     requires continuity { IsContinuous rep.now }
     requires named { All (IsWritten locations.now) (edge_locations rep.now) }
-    ensures { OnOk result (text.new.items ≡ text.old.items ++ spaced (number_words (renumbered_edge_rep (location_number locations.now) rep.now))) }
+    ensures { OnOk result (text.new.items ≡ text.old.items ++ written_numbers locations.now rep.now) }
 {
     match rep {
         EdgeRep::Curve {
             curve,
             location,
             ..
-        } => {
-            push_entries(text, &[*curve])?;
-            push_location(text, *location, locations)
-        }
+        } => push_located(text, &[*curve], *location, locations),
         EdgeRep::Curve2 {
             curve2,
             surface,
             location,
             ..
-        } => {
-            push_entries(text, &[*curve2, *surface])?;
-            push_location(text, *location, locations)
+        } => push_located(text, &[*curve2, *surface], *location, locations),
+        EdgeRep::Seam { .. } | EdgeRep::Joint { .. } => {
+            push_columns_with_continuity(text, rep, locations)
         }
+        EdgeRep::Polygon { .. } | EdgeRep::PolygonOn { .. } | EdgeRep::SeamPolygons { .. } => {
+            push_polygon_columns(text, rep, locations)
+        }
+    }
+}
+
+/// The same of a representation with a continuity, which a seam has joined to the number before it.
+fn push_columns_with_continuity(
+    text: &mut Vec<u8>,
+    rep: &EdgeRep,
+    locations: &WrittenLocations<'_>,
+) -> Result<(), AllocError>
+    requires form { HasContinuity (form_of_edge rep.now) }
+    requires numbering { IsNumbering locations.now }
+    requires continuity { IsContinuous rep.now }
+    requires named { All (IsWritten locations.now) (edge_locations rep.now) }
+    ensures { OnOk result (text.new.items ≡ text.old.items ++ written_numbers locations.now rep.now) }
+{
+    match rep {
         EdgeRep::Seam {
             first_curve2,
             second_curve2,
@@ -71,8 +85,7 @@ fn push_columns(
         } => {
             push_entries(text, &[*first_curve2, *second_curve2])?;
             text.extend_from_slice(&continuity_word(*continuity))?;
-            push_entries(text, &[*surface])?;
-            push_location(text, *location, locations)
+            push_located(text, &[*surface], *location, locations)
         }
         EdgeRep::Joint {
             continuity,
@@ -83,32 +96,43 @@ fn push_columns(
         } => {
             text.push(b' ')?;
             text.extend_from_slice(&continuity_word(*continuity))?;
-            push_entries(text, &[*first_surface])?;
-            push_location(text, *first_location, locations)?;
-            push_entries(text, &[*second_surface])?;
-            push_location(text, *second_location, locations)
+            push_located(text, &[*first_surface], *first_location, locations)?;
+            push_located(text, &[*second_surface], *second_location, locations)
         }
+        _ => unreachable!(),
+    }
+}
+
+/// The same of a polygon, or of polygons on a triangulation.
+fn push_polygon_columns(
+    text: &mut Vec<u8>,
+    rep: &EdgeRep,
+    locations: &WrittenLocations<'_>,
+) -> Result<(), AllocError>
+    requires form { IsPolygonal (form_of_edge rep.now) }
+    requires numbering { IsNumbering locations.now }
+    requires named { All (IsWritten locations.now) (edge_locations rep.now) }
+    ensures { OnOk result (text.new.items ≡ text.old.items ++ written_numbers locations.now rep.now) }
+{
+    match rep {
         EdgeRep::Polygon { polygon, location } => {
-            push_entries(text, &[*polygon])?;
-            push_location(text, *location, locations)
+            push_located(text, &[*polygon], *location, locations)
         }
         EdgeRep::PolygonOn {
             polygon_on,
             mesh,
             location,
-        } => {
-            push_entries(text, &[*polygon_on, *mesh])?;
-            push_location(text, *location, locations)
-        }
+        } => push_located(text, &[*polygon_on, *mesh], *location, locations),
         EdgeRep::SeamPolygons {
             first_polygon_on,
             second_polygon_on,
             mesh,
             location,
         } => {
-            push_entries(text, &[*first_polygon_on, *second_polygon_on, *mesh])?;
-            push_location(text, *location, locations)
+            let entries = [*first_polygon_on, *second_polygon_on, *mesh];
+            push_located(text, &entries, *location, locations)
         }
+        _ => unreachable!(),
     }
 }
 
@@ -138,7 +162,7 @@ fn push_uv(text: &mut Vec<u8>, texts: &Decimals) -> Result<(), AllocError>
 /// The parameters of a p-curve, the end of the line, and in version 2 the line of the UV points.
 fn push_p_curve(text: &mut Vec<u8>, texts: &Decimals, version: u8) -> Result<(), AllocError>
     requires { length texts.now ≡ p_curve_texts version }
-    ensures { OnOk result (text.new.items ≡ text.old.items ++ (spaced (take 2 texts.now) ++ 10 ∷ lines_text (uv_lines (drop 2 texts.now)))) }
+    ensures { OnOk result (text.new.items ≡ text.old.items ++ decimals_text texts.now) }
 {
     push_range(text, texts)?;
     if version == 2 {
@@ -172,7 +196,7 @@ fn push_edge_rep(
 ) -> Result<(), AllocError>
     requires numbering { IsNumbering locations.now }
     requires writable { IsWritableEdge locations.now version rep.now }
-    ensures { OnOk result (text.new.items ≡ text.old.items ++ lines_text (edge_rep_lines version (renumbered_edge_rep (location_number locations.now) rep.now))) }
+    ensures { OnOk result (text.new.items ≡ text.old.items ++ written_edge_rep locations.now version rep.now) }
 {
     text.push(form_digit(rep))?;
     push_columns(text, rep, locations)?;
@@ -189,7 +213,7 @@ pub(crate) fn push_edge_reps(
     requires numbering { IsNumbering locations.now }
     requires writable { All (IsWritableEdge locations.now version) reps.now }
     ensures { OnOk result (text.new.items ≡ text.old.items
-        ++ flat_map (λ r. lines_text (edge_rep_lines version (renumbered_edge_rep (location_number locations.now) r))) reps.now) }
+        ++ flat_map (written_edge_rep locations.now version) reps.now) }
 {
     for rep in reps {
         push_edge_rep(text, rep, version, locations)?;

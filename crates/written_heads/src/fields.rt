@@ -5,7 +5,7 @@ ghost use Rattle.std.specs.List.{flat_map};
 ghost use Rattle.std.specs.Prelude.{◌≡◌, ◌<◌, ◌∷◌, ◌++◌, OnOk, length, slice_index_or, [], take};
 ghost use Rattle.tshape_data.specs.Flags.{flag_code, spell_flags};
 ghost use Rattle.tshape_data.specs.Parts.{continuity_text};
-ghost use Rattle.written_heads.specs.Words.{entries_text, IsWritten};
+ghost use Rattle.written_heads.specs.Words.{entries_text, IsWritten, located_text};
 ghost use Rattle.written_locations.specs.Added.{IsNumbering, location_number};
 
 use brep_tokens::Decimals;
@@ -44,6 +44,21 @@ pub(crate) fn push_location(
     ensures { OnOk result (text.new.items ≡ text.old.items ++ 32 ∷ decimal (location_number locations.now location)) }
 {
     push_number(text, locations.number(location))
+}
+
+/// A space before each of the numbers of entries, and before the written number of a location.
+pub(crate) fn push_located(
+    text: &mut Vec<u8>,
+    entries: &[u32],
+    location: u32,
+    locations: &WrittenLocations<'_>,
+) -> Result<(), AllocError>
+    requires numbering { IsNumbering locations.now }
+    requires written { IsWritten locations.now location }
+    ensures { OnOk result (text.new.items ≡ text.old.items ++ located_text locations.now entries.now location) }
+{
+    push_entries(text, entries)?;
+    push_location(text, location, locations)
 }
 
 /// One of the decimals.

@@ -1,14 +1,15 @@
 //! The lines of a record's head.
 ghost use Rattle.brep_tokens.specs.Written.{line_text, lines_text};
-ghost use Rattle.std.specs.Prelude.{◌≡◌, ◌++◌, ◌≤◌, All, OnOk, length};
-ghost use Rattle.tshape_data.specs.Lines.{head_lines, mesh_lines, payload_lines};
+ghost use Rattle.std.specs.Prelude.{◌≡◌, ◌++◌, All, OnOk, length};
+ghost use Rattle.tshape_data.specs.Lines.{mesh_lines};
 ghost use Rattle.tshape_data.specs.Parts.{edge_flags};
-ghost use Rattle.tshape_data.specs.Locations.{renumbered_head, renumbered_payload, data_locations};
+ghost use Rattle.tshape_data.specs.Locations.{data_locations};
 ghost use Rattle.tshape_data.specs.Sound.{IsSoundHead};
 ghost use Rattle.tshape_data.specs.declared.head_bounds.HeadBounds.{HeadBounds};
 ghost use Rattle.tshape_data.specs.declared.head.Payload.TheVariants.{Edge, Face, Vertex};
-ghost use Rattle.written_heads.specs.Words.{IsWritableEdge, IsWritablePayload, IsWritablePoint, IsWritten, vertex_texts};
-ghost use Rattle.written_locations.specs.Added.{IsAdded, IsNumbering, location_number};
+ghost use Rattle.written_heads.specs.Named.{AreInSection};
+ghost use Rattle.written_heads.specs.Words.{IsWritableEdge, IsWritablePayload, IsWritablePoint, IsWritten, vertex_texts, written_head, written_payload};
+ghost use Rattle.written_locations.specs.Added.{IsAdded, IsNumbering};
 
 use crate::edges::push_edge_reps;
 use crate::fields::{flag_digit, flag_digits, push_decimal, push_location, push_number, push_text};
@@ -40,7 +41,7 @@ fn push_vertex(
     requires numbering { IsNumbering locations.now }
     requires texts { length vertex.now.texts ≡ 4 }
     requires points { All (IsWritablePoint locations.now) vertex.now.points }
-    ensures { OnOk result (text.new.items ≡ text.old.items ++ lines_text (payload_lines 1 (renumbered_payload (location_number locations.now) (Vertex vertex.now)))) }
+    ensures { OnOk result (text.new.items ≡ text.old.items ++ written_payload locations.now 1 (Vertex vertex.now)) }
 {
     push_vertex_texts(text, &vertex.texts)?;
     push_points(text, vertex.points.as_slice(), locations)?;
@@ -74,7 +75,7 @@ fn push_edge(
     requires numbering { IsNumbering locations.now }
     requires tolerance { length edge.now.tolerance ≡ 1 }
     requires reps { All (IsWritableEdge locations.now version) edge.now.reps }
-    ensures { OnOk result (text.new.items ≡ text.old.items ++ lines_text (payload_lines version (renumbered_payload (location_number locations.now) (Edge edge.now)))) }
+    ensures { OnOk result (text.new.items ≡ text.old.items ++ written_payload locations.now version (Edge edge.now)) }
 {
     push_edge_flags(text, edge)?;
     push_edge_reps(text, edge.reps.as_slice(), version, locations)?;
@@ -104,7 +105,7 @@ fn push_face(
     requires numbering { IsNumbering locations.now }
     requires tolerance { length face.now.tolerance ≡ 1 }
     requires location { IsWritten locations.now face.now.location }
-    ensures { OnOk result (text.new.items ≡ text.old.items ++ lines_text (payload_lines 1 (renumbered_payload (location_number locations.now) (Face face.now)))) }
+    ensures { OnOk result (text.new.items ≡ text.old.items ++ written_payload locations.now 1 (Face face.now)) }
 {
     text.push(flag_digit(face.natural))?;
     text.push(b' ')?;
@@ -124,7 +125,7 @@ fn push_payload(
 ) -> Result<(), AllocError>
     requires numbering { IsNumbering locations.now }
     requires writable { IsWritablePayload locations.now version payload.now }
-    ensures { OnOk result (text.new.items ≡ text.old.items ++ lines_text (payload_lines version (renumbered_payload (location_number locations.now) payload.now))) }
+    ensures { OnOk result (text.new.items ≡ text.old.items ++ written_payload locations.now version payload.now) }
 {
     match payload {
         Payload::Vertex(vertex) => push_vertex(text, vertex, locations),
@@ -144,9 +145,9 @@ pub fn push_head(
 ) -> Result<(), AllocError>
     requires sound { (b : HeadBounds) × IsSoundHead b version head.now }
     requires numbering { IsNumbering locations.now }
-    requires within { All (λ place. place ≤ length locations.now.section.now) (data_locations version head.now.payload) }
+    requires within { AreInSection locations.now (data_locations version head.now.payload) }
     requires added { All (IsAdded locations.now) (data_locations version head.now.payload) }
-    ensures { OnOk result (text.new.items ≡ text.old.items ++ lines_text (head_lines version (renumbered_head (location_number locations.now) head.now))) }
+    ensures { OnOk result (text.new.items ≡ text.old.items ++ written_head locations.now version head.now) }
 {
     text.extend_from_slice(kind_name(head.kind))?;
     text.push(b'\n')?;

@@ -1,16 +1,24 @@
 //! The lines of a vertex's representations.
-ghost use Rattle.brep_tokens.specs.Written.{line_text};
-ghost use Rattle.std.specs.List.{flat_map, join_with_byte};
-ghost use Rattle.std.specs.Prelude.{◌≡◌, ◌++◌, All, OnOk};
-ghost use Rattle.tshape_data.specs.Lines.{point_line};
-ghost use Rattle.tshape_data.specs.Locations.{renumbered_point};
-ghost use Rattle.written_heads.specs.Words.{IsWritablePoint};
-ghost use Rattle.written_locations.specs.Added.{IsNumbering, location_number};
+ghost use Rattle.std.specs.List.{flat_map};
+ghost use Rattle.std.specs.Prelude.{◌≡◌, ◌<◌, ◌∷◌, ◌++◌, All, OnOk, [], length, slice_index_or};
+ghost use Rattle.written_heads.specs.Words.{IsWritablePoint, written_point, written_words};
+ghost use Rattle.written_locations.specs.Added.{IsNumbering};
 
-use crate::fields::{push_entries, push_location, push_text};
+use crate::fields::{push_decimal, push_located, push_text};
+use brep_tokens::Decimals;
 use std::alloc::AllocError;
 use tshape_data::PointRep;
 use written_locations::WrittenLocations;
+
+/// The first parameter, a space and the digit of a form.
+fn push_form(text: &mut Vec<u8>, texts: &Decimals, digit: u8) -> Result<(), AllocError>
+    requires { 0 < length texts.now }
+    ensures { OnOk result (text.new.items ≡ text.old.items ++ (slice_index_or texts.now 0 [] ++ 32 ∷ digit ∷ [])) }
+{
+    push_decimal(text, texts, 0, b' ')?;
+    text.push(digit)?;
+    Ok(())
+}
 
 /// The words of a representation: its parameter, the digit of its form, perhaps its second parameter, and its numbers.
 fn push_words(
@@ -20,7 +28,7 @@ fn push_words(
 ) -> Result<(), AllocError>
     requires numbering { IsNumbering locations.now }
     requires writable { IsWritablePoint locations.now point.now }
-    ensures { OnOk result (text.new.items ≡ text.old.items ++ join_with_byte 32 (point_line (renumbered_point (location_number locations.now) point.now))) }
+    ensures { OnOk result (text.new.items ≡ text.old.items ++ written_words locations.now point.now) }
 {
     match point {
         PointRep::OnCurve {
@@ -28,10 +36,8 @@ fn push_words(
             curve,
             location,
         } => {
-            push_text(text, texts, 0)?;
-            text.extend_from_slice(b" 1")?;
-            push_entries(text, &[*curve])?;
-            push_location(text, *location, locations)
+            push_form(text, texts, b'1')?;
+            push_located(text, &[*curve], *location, locations)
         }
         PointRep::OnCurve2 {
             texts,
@@ -39,21 +45,18 @@ fn push_words(
             surface,
             location,
         } => {
-            push_text(text, texts, 0)?;
-            text.extend_from_slice(b" 2")?;
-            push_entries(text, &[*curve2, *surface])?;
-            push_location(text, *location, locations)
+            push_form(text, texts, b'2')?;
+            push_located(text, &[*curve2, *surface], *location, locations)
         }
         PointRep::OnSurface {
             texts,
             surface,
             location,
         } => {
-            push_text(text, texts, 0)?;
-            text.extend_from_slice(b" 3 ")?;
+            push_form(text, texts, b'3')?;
+            text.push(b' ')?;
             push_text(text, texts, 1)?;
-            push_entries(text, &[*surface])?;
-            push_location(text, *location, locations)
+            push_located(text, &[*surface], *location, locations)
         }
     }
 }
@@ -66,7 +69,7 @@ pub(crate) fn push_points(
 ) -> Result<(), AllocError>
     requires numbering { IsNumbering locations.now }
     requires writable { All (IsWritablePoint locations.now) points.now }
-    ensures { OnOk result (text.new.items ≡ text.old.items ++ flat_map (λ p. line_text (point_line (renumbered_point (location_number locations.now) p))) points.now) }
+    ensures { OnOk result (text.new.items ≡ text.old.items ++ flat_map (written_point locations.now) points.now) }
 {
     for point in points {
         push_words(text, point, locations)?;
