@@ -4,9 +4,106 @@ ghost use Rattle.curve_tables.specs.Shapes.{CanSpell2, CanSpell3};
 
 use brep_tokens::{Decimals, Numbers};
 use curve_tables::{Curve2, Curve2Reader, Curve2s, Curve3, Curve3Reader, Curve3s, laws};
-use sample_entries::{append, entry, texts};
+use sample_entries::{append, entry, row, texts};
 use std::alloc::Global;
 use std::test::Fail;
+
+/// Curves in a plane that are spelled as they are read, each behind the number of its tokens.
+const PLANE: &str = "
+    5: 1 0 10 1 0
+    8: 2 0 0 1 0 -0 1 5
+    9: 3 0 0 1 0 -0 1 5 3
+    8: 4 0 0 1 0 0 1 2.5
+    9: 5 0 0 1 0 0 1 5 3e-7
+    5: 6 0 0 .5 -1.
+    9: 6 0 2 0 0 1 1 2 0
+    9: 6 1 1 0 0 1 5 5 0.5
+    6: 7 0 0 1 0 0
+    8: 7 0 1 1 0 1 5 2
+    14: 7 0 0 1 2 2 0 0 1 1 0 2 1 2
+    19: 7 1 1 2 3 2 0 0 1 1 1 0.7 2 0 1 0 3 1 3
+    8: 8 0 1 1 0 10 1 0
+    7: 9 -2.5 1 0 10 1 0
+    10: 8 0 1 9 .5 6 0 0 3 4
+";
+
+/// The same in space.
+const SPACE: &str = "
+    7: 1 5 0 0 0 0 1
+    14: 2 0 0 10 0 0 1 1 0 -0 -0 1 0 5
+    15: 3 0 0 10 0 0 1 1 0 -0 -0 1 0 5 3
+    14: 4 0 0 10 0 0 1 1 0 -0 -0 1 0 2.5
+    15: 5 0 0 10 0 0 1 1 0 -0 -0 1 0 5 3e-7
+    9: 6 0 1 0 0 0 1 1 1
+    11: 6 1 1 0 0 0 1 1 1 1 0.5
+    16: 7 0 0 1 2 2 0 0 0 1 1 1 0 2 1 2
+    22: 7 1 0 2 3 2 0 0 0 1 1 1 1 0.7 2 0 0 1 0 3 1 3
+    17: 8 0 6.28 2 0 0 10 0 0 1 1 0 -0 -0 1 0 5
+    12: 9 0.5 0 0 1 1 5 0 0 0 0 1
+";
+
+/// The first token that isn't accepted: its place from 0, value and limit.
+const REFUSED: &str = "
+     -> more
+    1 0 10 1 -> more
+    8 0 1 -> more
+    6 0 999999999999999999 0 -> more
+    7 0 0 1 999999999999999999 999999999999999999 0 -> more
+    7 0 0 1 0 1 5 -> more
+    x -> NumberExpected 0 0 0
+    01 -> NumberExpected 0 0 0
+    0 -> UnknownCode 0 0 0
+    10 -> UnknownCode 0 10 0
+    999999999999999999 -> UnknownCode 0 999999999999999999 0
+    1000000000000000000 -> NumberExpected 0 0 0
+    1 0 10 1 p -> DecimalExpected 4 0 0
+    6 2 -> FlagExpected 1 0 0
+    6 0 -1 -> NumberExpected 2 0 0
+    6 1 0 1 2 +3 -> DecimalExpected 5 0 0
+    7 0 2 -> FlagExpected 2 0 0
+    7 0 0 1. -> NumberExpected 3 0 0
+    7 0 0 1 -2 -> NumberExpected 4 0 0
+    7 0 0 1 2 x -> NumberExpected 5 0 0
+    7 0 0 1 1 1 0 0 +5 -> DecimalExpected 8 0 0
+    7 0 0 1 1 1 0 0 5 1. -> NumberExpected 9 0 0
+    8 0 p -> DecimalExpected 2 0 0
+    8 0 1 10 -> UnknownCode 3 10 0
+    9 1 0.5 -> NumberExpected 2 0 0
+";
+
+/// The same in space.
+const REFUSED_IN_SPACE: &str = "
+    1 5 0 0 0 0 -> more
+    9 0.5 0 0 1 -> more
+    9 0.5 1 0 p -> DecimalExpected 4 0 0
+    6 0 0 1 2 - -> DecimalExpected 5 0 0
+";
+
+/// Behind 64 codes that are open.
+const TOO_DEEP: &str = "
+    1 -> NestLimit 192 65 64
+    9 -> NestLimit 192 65 64
+    10 -> UnknownCode 192 10 0
+    1. -> NumberExpected 192 0 0
+";
+
+/// Curves in space inside 62 codes.
+const INSIDE_62: &str = "
+    9: 8 0 1 6 0 0 1 2 3
+    8 0 1 8 0 1 7 -> NestLimit 6 65 64
+";
+
+/// The same inside 63 codes.
+const INSIDE_63: &str = "
+    7: 1 5 0 0 0 0 1
+    8 0 1 1 -> NestLimit 3 65 64
+";
+
+/// The same inside 64 codes.
+const INSIDE_64: &str = "
+    1 -> NestLimit 0 65 64
+    0 -> UnknownCode 0 0 0
+";
 
 /// Can the curve be spelled? Only numbers below a million are asked for.
 fn can_spell2(curve: &Curve2) -> bool
@@ -118,88 +215,53 @@ fn trimmed(alloc: Global, count: u64, basis: &str) -> Result<String, Fail> {
     Ok(text)
 }
 
+/// How many lines of a table are met behind so many open codes, or the first that isn't, with what is said of it.
+fn met2(alloc: Global, open: u64, table: &str) -> Result<String, Fail> {
+    let mut lines = 0u64;
+    for line in table.lines() {
+        if let Some((text, want)) = row(line) {
+            let text = trimmed(alloc, open, text)?;
+            let said = curve2(alloc, text.as_str())?;
+            if said.as_str() != want {
+                return Ok(format!(in alloc; "{text}: {said}")?);
+            }
+            lines = lines.saturating_add(1);
+        }
+    }
+    Ok(format!(in alloc; "{lines}")?)
+}
+
+/// The same for curves in space, inside so many codes.
+fn met3(alloc: Global, nest: u32, open: u64, table: &str) -> Result<String, Fail>
+    requires { nest ≤ 64 }
+{
+    let mut lines = 0u64;
+    for line in table.lines() {
+        if let Some((text, want)) = row(line) {
+            let text = trimmed(alloc, open, text)?;
+            let said = curve3(alloc, nest, text.as_str())?;
+            if said.as_str() != want {
+                return Ok(format!(in alloc; "{text}: {said}")?);
+            }
+            lines = lines.saturating_add(1);
+        }
+    }
+    Ok(format!(in alloc; "{lines}")?)
+}
+
 #[test]
 fn curves_are_spelled_as_read(rt: HostRuntime) -> Result<(), Fail> {
     let alloc = rt.alloc();
-    for (tokens, text) in [
-        (5, "1 0 10 1 0"),
-        (8, "2 0 0 1 0 -0 1 5"),
-        (9, "3 0 0 1 0 -0 1 5 3"),
-        (8, "4 0 0 1 0 0 1 2.5"),
-        (9, "5 0 0 1 0 0 1 5 3e-7"),
-        (5, "6 0 0 .5 -1."),
-        (9, "6 0 2 0 0 1 1 2 0"),
-        (9, "6 1 1 0 0 1 5 5 0.5"),
-        (6, "7 0 0 1 0 0"),
-        (8, "7 0 1 1 0 1 5 2"),
-        (14, "7 0 0 1 2 2 0 0 1 1 0 2 1 2"),
-        (19, "7 1 1 2 3 2 0 0 1 1 1 0.7 2 0 1 0 3 1 3"),
-        (8, "8 0 1 1 0 10 1 0"),
-        (7, "9 -2.5 1 0 10 1 0"),
-        (10, "8 0 1 9 .5 6 0 0 3 4"),
-    ] {
-        let want = format!(in alloc; "{tokens}: {text}")?;
-        assert_eq!(rt; curve2(alloc, text)?.as_str(), want.as_str(), "{text}");
-    }
-    for (tokens, text) in [
-        (7, "1 5 0 0 0 0 1"),
-        (14, "2 0 0 10 0 0 1 1 0 -0 -0 1 0 5"),
-        (15, "3 0 0 10 0 0 1 1 0 -0 -0 1 0 5 3"),
-        (14, "4 0 0 10 0 0 1 1 0 -0 -0 1 0 2.5"),
-        (15, "5 0 0 10 0 0 1 1 0 -0 -0 1 0 5 3e-7"),
-        (9, "6 0 1 0 0 0 1 1 1"),
-        (11, "6 1 1 0 0 0 1 1 1 1 0.5"),
-        (16, "7 0 0 1 2 2 0 0 0 1 1 1 0 2 1 2"),
-        (22, "7 1 0 2 3 2 0 0 0 1 1 1 1 0.7 2 0 0 1 0 3 1 3"),
-        (17, "8 0 6.28 2 0 0 10 0 0 1 1 0 -0 -0 1 0 5"),
-        (12, "9 0.5 0 0 1 1 5 0 0 0 0 1"),
-    ] {
-        let want = format!(in alloc; "{tokens}: {text}")?;
-        assert_eq!(rt; curve3(alloc, 0, text)?.as_str(), want.as_str(), "{text}");
-    }
+    assert_eq!(rt; met2(alloc, 0, PLANE)?.as_str(), "15");
+    assert_eq!(rt; met3(alloc, 0, 0, SPACE)?.as_str(), "11");
     Ok(())
 }
 
 #[test]
 fn the_first_token_that_is_not_accepted(rt: HostRuntime) -> Result<(), Fail> {
     let alloc = rt.alloc();
-    for (text, want) in [
-        ("", "more"),
-        ("1 0 10 1", "more"),
-        ("8 0 1", "more"),
-        ("6 0 999999999999999999 0", "more"),
-        ("7 0 0 1 999999999999999999 999999999999999999 0", "more"),
-        ("7 0 0 1 0 1 5", "more"),
-        ("x", "NumberExpected 0 0 0"),
-        ("01", "NumberExpected 0 0 0"),
-        ("0", "UnknownCode 0 0 0"),
-        ("10", "UnknownCode 0 10 0"),
-        ("999999999999999999", "UnknownCode 0 999999999999999999 0"),
-        ("1000000000000000000", "NumberExpected 0 0 0"),
-        ("1 0 10 1 p", "DecimalExpected 4 0 0"),
-        ("6 2", "FlagExpected 1 0 0"),
-        ("6 0 -1", "NumberExpected 2 0 0"),
-        ("6 1 0 1 2 +3", "DecimalExpected 5 0 0"),
-        ("7 0 2", "FlagExpected 2 0 0"),
-        ("7 0 0 1.", "NumberExpected 3 0 0"),
-        ("7 0 0 1 -2", "NumberExpected 4 0 0"),
-        ("7 0 0 1 2 x", "NumberExpected 5 0 0"),
-        ("7 0 0 1 1 1 0 0 +5", "DecimalExpected 8 0 0"),
-        ("7 0 0 1 1 1 0 0 5 1.", "NumberExpected 9 0 0"),
-        ("8 0 p", "DecimalExpected 2 0 0"),
-        ("8 0 1 10", "UnknownCode 3 10 0"),
-        ("9 1 0.5", "NumberExpected 2 0 0"),
-    ] {
-        assert_eq!(rt; curve2(alloc, text)?.as_str(), want, "{text}");
-    }
-    for (text, want) in [
-        ("1 5 0 0 0 0", "more"),
-        ("9 0.5 0 0 1", "more"),
-        ("9 0.5 1 0 p", "DecimalExpected 4 0 0"),
-        ("6 0 0 1 2 -", "DecimalExpected 5 0 0"),
-    ] {
-        assert_eq!(rt; curve3(alloc, 0, text)?.as_str(), want, "{text}");
-    }
+    assert_eq!(rt; met2(alloc, 0, REFUSED)?.as_str(), "25");
+    assert_eq!(rt; met3(alloc, 0, 0, REFUSED_IN_SPACE)?.as_str(), "4");
     Ok(())
 }
 
@@ -209,26 +271,11 @@ fn at_most_64_codes_are_open(rt: HostRuntime) -> Result<(), Fail> {
     let deepest = trimmed(alloc, 63, "1 0 10 1 0")?;
     let whole = format!(in alloc; "194: {deepest}")?;
     assert_eq!(rt; curve2(alloc, deepest.as_str())?.as_str(), whole.as_str());
-    for (basis, want) in [
-        ("1", "NestLimit 192 65 64"),
-        ("9", "NestLimit 192 65 64"),
-        ("10", "UnknownCode 192 10 0"),
-        ("1.", "NumberExpected 192 0 0"),
-    ] {
-        let text = trimmed(alloc, 64, basis)?;
-        assert_eq!(rt; curve2(alloc, text.as_str())?.as_str(), want, "{basis}");
-        assert_eq!(rt; curve3(alloc, 0, text.as_str())?.as_str(), want, "{basis}");
-    }
-    for (nest, text, want) in [
-        (63, "1 5 0 0 0 0 1", "7: 1 5 0 0 0 0 1"),
-        (63, "8 0 1 1", "NestLimit 3 65 64"),
-        (62, "8 0 1 6 0 0 1 2 3", "9: 8 0 1 6 0 0 1 2 3"),
-        (62, "8 0 1 8 0 1 7", "NestLimit 6 65 64"),
-        (64, "1", "NestLimit 0 65 64"),
-        (64, "0", "UnknownCode 0 0 0"),
-    ] {
-        assert_eq!(rt; curve3(alloc, nest, text)?.as_str(), want, "{nest} {text}");
-    }
+    assert_eq!(rt; met2(alloc, 64, TOO_DEEP)?.as_str(), "4");
+    assert_eq!(rt; met3(alloc, 0, 64, TOO_DEEP)?.as_str(), "4");
+    assert_eq!(rt; met3(alloc, 62, 0, INSIDE_62)?.as_str(), "2");
+    assert_eq!(rt; met3(alloc, 63, 0, INSIDE_63)?.as_str(), "2");
+    assert_eq!(rt; met3(alloc, 64, 0, INSIDE_64)?.as_str(), "2");
     Ok(())
 }
 

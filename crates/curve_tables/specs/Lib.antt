@@ -2,6 +2,7 @@ pub mod Counts
 pub mod Chains
 pub mod Curves
 pub mod ChainLeft
+pub mod ChainSteps
 pub mod Left
 pub mod Spelling
 pub mod Sound

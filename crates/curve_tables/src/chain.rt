@@ -3,7 +3,8 @@ ghost use Rattle.std.specs.Prelude.{◌≡◌, ◌<◌, Err, IfOk, List, [], tru
 ghost use Rattle.entry_readers.specs.Reading.{more};
 ghost use Rattle.entry_readers.specs.Takes.{StepsOn};
 ghost use Rattle.brep_tokens.specs.declared.text.Token.{Token};
-ghost use Rattle.curve_tables.specs.Chains.{chain_at, coded_at, is_code, leaf_at, wrapped_at};
+ghost use Rattle.curve_tables.specs.ChainSteps.{OpensCode, OpensLeaf, OpensWrap, StaysAt, StepsFrom};
+ghost use Rattle.curve_tables.specs.Chains.{chain_at, is_code};
 ghost use Rattle.curve_tables.specs.ChainLeft.{AnswersCode, Settles, TakesChain, Waits, at_stage, chain_left};
 ghost use Rattle.curve_tables.specs.declared.stage.Stage.TheVariants as stages;
 
@@ -74,7 +75,7 @@ impl ChainReader {
     /// A decimal.
     fn take_text(&mut self, t: &Token, after: After) -> Result<(), ReadStop>
         requires { 0 < self.old.texts.due }
-        ensures step { StepsOn (at_stage (stages.Texts after) self.old) t.now (at_stage (stages.Texts after) self.new) result }
+        ensures step { StaysAt (stages.Texts after) self.old t.now self.new result }
         ensures stage { self.new.stage ≡ self.old.stage }
     {
         self.texts.take(t)
@@ -83,7 +84,7 @@ impl ChainReader {
     /// A knot or a multiplicity.
     fn take_knot(&mut self, t: &Token, form: Form) -> Result<(), ReadStop>
         requires { 0 < self.old.knots.due }
-        ensures step { StepsOn (at_stage (stages.Knots form) self.old) t.now (at_stage (stages.Knots form) self.new) result }
+        ensures step { StaysAt (stages.Knots form) self.old t.now self.new result }
         ensures stage { self.new.stage ≡ self.old.stage }
     {
         self.knots.take(t)
@@ -91,7 +92,7 @@ impl ChainReader {
 
     /// The code of a curve.
     fn take_code(&mut self, t: &Token) -> Result<(), ReadStop>
-        ensures { StepsOn (at_stage stages.Code self.old) t.now (chain_left self.new) result }
+        ensures { StepsFrom stages.Code self.old t.now self.new result }
     {
         match code_due(t) {
             Err(f) => Err(ReadStop::Fault(f)),
@@ -109,7 +110,7 @@ impl ChainReader {
     /// What a code begins is due.
     fn open(&mut self, code: u64)
         requires { is_code code ≡ true }
-        ensures { (ts : List Token) → chain_left self.new ts ≡ coded_at self.old.dimension self.old.frames (chain_at self.old.dimension self.old.room) code ts }
+        ensures { OpensCode self.old code self.new }
     {
         match code {
             6 => self.stage = Stage::BezierRational,
@@ -125,7 +126,7 @@ impl ChainReader {
 
     /// Decimals are due, and then the basis.
     fn wrap(&mut self, wrap: Wrap)
-        ensures { (ts : List Token) → chain_left self.new ts ≡ wrapped_at self.old.dimension wrap self.old.frames (chain_at self.old.dimension self.old.room) ts }
+        ensures { OpensWrap self.old wrap self.new }
     {
         self.texts = DecimalsDue::new(self.alloc, wrap_decimals(self.dimension, wrap));
         self.stage = Stage::Texts {
@@ -135,7 +136,7 @@ impl ChainReader {
 
     /// So many decimals are due, and then so many knots.
     pub fn expect(&mut self, form: Form, decimals: u64, knots: u64)
-        ensures { (ts : List Token) → chain_left self.new ts ≡ leaf_at self.old.dimension self.old.frames form decimals knots ts }
+        ensures { OpensLeaf self.old form decimals knots self.new }
     {
         self.texts = DecimalsDue::new(self.alloc, decimals);
         self.stage = Stage::Texts {

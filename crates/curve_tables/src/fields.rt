@@ -1,7 +1,5 @@
 //! The flags and numbers of a Bezier or B-spline curve. Each method is stated at its own stage.
-ghost use Rattle.std.specs.Prelude.{◌≡◌};
-ghost use Rattle.entry_readers.specs.Takes.{StepsOn};
-ghost use Rattle.curve_tables.specs.ChainLeft.{at_stage, chain_left};
+ghost use Rattle.curve_tables.specs.ChainSteps.{StepsFrom};
 ghost use Rattle.curve_tables.specs.declared.stage.Stage.TheVariants as stages;
 
 use crate::chain::ChainReader;
@@ -14,7 +12,7 @@ use entry_readers::{flag_due, number_due};
 impl ChainReader {
     /// Whether a Bezier curve is rational.
     pub fn take_bezier_rational(&mut self, t: &Token) -> Result<(), ReadStop>
-        ensures { StepsOn (at_stage stages.BezierRational self.old) t.now (chain_left self.new) result }
+        ensures { StepsFrom stages.BezierRational self.old t.now self.new result }
     {
         match flag_due(t) {
             Err(f) => Err(ReadStop::Fault(f)),
@@ -27,7 +25,7 @@ impl ChainReader {
 
     /// The degree of a Bezier curve.
     pub fn take_bezier_degree(&mut self, t: &Token, rational: bool) -> Result<(), ReadStop>
-        ensures { StepsOn (at_stage (stages.BezierDegree rational) self.old) t.now (chain_left self.new) result }
+        ensures { StepsFrom (stages.BezierDegree rational) self.old t.now self.new result }
     {
         match number_due(t) {
             Err(f) => Err(ReadStop::Fault(f)),
@@ -41,7 +39,7 @@ impl ChainReader {
 
     /// Whether a B-spline curve is rational.
     pub fn take_spline_rational(&mut self, t: &Token) -> Result<(), ReadStop>
-        ensures { StepsOn (at_stage stages.SplineRational self.old) t.now (chain_left self.new) result }
+        ensures { StepsFrom stages.SplineRational self.old t.now self.new result }
     {
         match flag_due(t) {
             Err(f) => Err(ReadStop::Fault(f)),
@@ -54,7 +52,7 @@ impl ChainReader {
 
     /// The second flag of a B-spline curve.
     pub fn take_spline_flag(&mut self, t: &Token, rational: bool) -> Result<(), ReadStop>
-        ensures { StepsOn (at_stage (stages.SplineFlag rational) self.old) t.now (chain_left self.new) result }
+        ensures { StepsFrom (stages.SplineFlag rational) self.old t.now self.new result }
     {
         match flag_due(t) {
             Err(f) => Err(ReadStop::Fault(f)),
@@ -72,7 +70,7 @@ impl ChainReader {
         rational: bool,
         flag: bool,
     ) -> Result<(), ReadStop>
-        ensures { StepsOn (at_stage (stages.SplineDegree rational flag) self.old) t.now (chain_left self.new) result }
+        ensures { StepsFrom (stages.SplineDegree rational flag) self.old t.now self.new result }
     {
         match number_due(t) {
             Err(f) => Err(ReadStop::Fault(f)),
@@ -95,7 +93,7 @@ impl ChainReader {
         flag: bool,
         degree: u64,
     ) -> Result<(), ReadStop>
-        ensures { StepsOn (at_stage (stages.SplinePoles rational flag degree) self.old) t.now (chain_left self.new) result }
+        ensures { StepsFrom (stages.SplinePoles rational flag degree) self.old t.now self.new result }
     {
         match number_due(t) {
             Err(f) => Err(ReadStop::Fault(f)),
@@ -120,7 +118,7 @@ impl ChainReader {
         form: Form,
         decimals: u64,
     ) -> Result<(), ReadStop>
-        ensures { StepsOn (at_stage (stages.SplineKnots form decimals) self.old) t.now (chain_left self.new) result }
+        ensures { StepsFrom (stages.SplineKnots form decimals) self.old t.now self.new result }
     {
         match number_due(t) {
             Err(f) => Err(ReadStop::Fault(f)),

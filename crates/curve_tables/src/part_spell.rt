@@ -51,7 +51,8 @@ pub fn bezier<'a>(rational: bool, degree: u64, poles: &'a Decimals) -> PartSpell
     }
 }
 
-/// A B-spline curve: whether it is rational, its second flag, its degree, the number of its poles, and these and its knots.
+/// A B-spline curve: whether it is rational, its second flag, its degree, the number of its poles,
+/// and these and its knots.
 pub fn spline<'a>(
     flags: (bool, bool),
     degree: u64,
@@ -63,8 +64,8 @@ pub fn spline<'a>(
     requires poles { AreShort poles.now }
     requires knots { AreShort knots.now }
     requires even { length knots.now ≡ length multiplicities.now }
-    ensures left { part_left result ≡ decimal 7 ∷ flag_text flags.0 ∷ flag_text flags.1 ∷ decimal degree ∷ decimal pole_count ∷ decimal (length knots.now)
-        ∷ (poles.now ++ zipped knots.now multiplicities.now) }
+    ensures left { part_left result ≡ decimal 7 ∷ flag_text flags.0 ∷ flag_text flags.1
+        ∷ decimal degree ∷ decimal pole_count ∷ decimal (length knots.now) ∷ (poles.now ++ zipped knots.now multiplicities.now) }
     ensures can { CanGivePart result }
 {
     let (rational, flag) = flags;

@@ -48,7 +48,8 @@ impl Curve2Reader {
     /// Takes a token: it is the first one that isn't accepted, or more are due, or the curve is whole with it.
     pub fn take(&mut self, t: &Token) -> Result<Progress, ReadStop>
         requires { IsWaiting2 self.old }
-        ensures { Takes (curve2_left self.old) t.now (curve2_left self.new) (IsWaiting2 self.new) (IsDone2 self.new) result }
+        ensures { Takes (curve2_left self.old) t.now (curve2_left self.new)
+            (IsWaiting2 self.new) (IsDone2 self.new) result }
     {
         match self.chain.take(t) {
             Err(e) => Err(e),

@@ -33,7 +33,8 @@ fn assemble(chain: &mut ChainReader, form: Form) -> Result<Curve3, AllocError>
 }
 
 impl Curve3Reader {
-    /// No token was taken yet. The nest is the number of codes that are open around the curve, 0 in the section `Curves`.
+    /// No token was taken yet. The nest is the number of codes that are open around the curve,
+    /// 0 in the section `Curves`.
     pub fn new(alloc: Global, nest: u32) -> Curve3Reader
         requires { nest ≤ 64 }
         ensures left { (ts : List Token) → curve3_left result ts ≡ curve3_at nest ts }
@@ -49,7 +50,8 @@ impl Curve3Reader {
     /// Takes a token: it is the first one that isn't accepted, or more are due, or the curve is whole with it.
     pub fn take(&mut self, t: &Token) -> Result<Progress, ReadStop>
         requires { IsWaiting3 self.old }
-        ensures { Takes (curve3_left self.old) t.now (curve3_left self.new) (IsWaiting3 self.new) (IsDone3 self.new) result }
+        ensures { Takes (curve3_left self.old) t.now (curve3_left self.new)
+            (IsWaiting3 self.new) (IsDone3 self.new) result }
     {
         match self.chain.take(t) {
             Err(e) => Err(e),

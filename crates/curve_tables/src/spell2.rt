@@ -22,19 +22,13 @@ fn start<'a>(curve: &'a Curve2) -> Spell2<'a>
     ensures can { CanGive2 result }
     ensures first { 0 < length (part_left result.part) }
 {
-    match curve {
-        Curve2::Plain { code, texts } => Spell2 {
-            part: coded(*code as u64, texts),
-            basis: None,
-        },
+    let part = match curve {
+        Curve2::Plain { code, texts } => coded(*code as u64, texts),
         Curve2::Bezier {
             rational,
             degree,
             poles,
-        } => Spell2 {
-            part: bezier(*rational, *degree, poles),
-            basis: None,
-        },
+        } => bezier(*rational, *degree, poles),
         Curve2::BSpline {
             rational,
             flag,
@@ -43,26 +37,24 @@ fn start<'a>(curve: &'a Curve2) -> Spell2<'a>
             poles,
             knots,
             multiplicities,
-        } => Spell2 {
-            part: spline(
-                (*rational, *flag),
-                *degree,
-                *pole_count,
-                poles,
-                knots,
-                multiplicities,
-            ),
-            basis: None,
-        },
-        Curve2::Trimmed { texts, basis } => Spell2 {
-            part: coded(8, texts),
-            basis: Some(basis.get()),
-        },
-        Curve2::Offset { texts, basis } => Spell2 {
-            part: coded(9, texts),
-            basis: Some(basis.get()),
-        },
-    }
+        } => {
+            let flags = (*rational, *flag);
+            spline(flags, *degree, *pole_count, poles, knots, multiplicities)
+        }
+        Curve2::Trimmed { texts, basis } => {
+            return Spell2 {
+                part: coded(8, texts),
+                basis: Some(basis.get()),
+            };
+        }
+        Curve2::Offset { texts, basis } => {
+            return Spell2 {
+                part: coded(9, texts),
+                basis: Some(basis.get()),
+            };
+        }
+    };
+    Spell2 { part, basis: None }
 }
 
 impl Curve2 {

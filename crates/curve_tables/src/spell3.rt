@@ -22,19 +22,13 @@ fn start<'a>(curve: &'a Curve3) -> Spell3<'a>
     ensures can { CanGive3 result }
     ensures first { 0 < length (part_left result.part) }
 {
-    match curve {
-        Curve3::Plain { code, texts } => Spell3 {
-            part: coded(*code as u64, texts),
-            basis: None,
-        },
+    let part = match curve {
+        Curve3::Plain { code, texts } => coded(*code as u64, texts),
         Curve3::Bezier {
             rational,
             degree,
             poles,
-        } => Spell3 {
-            part: bezier(*rational, *degree, poles),
-            basis: None,
-        },
+        } => bezier(*rational, *degree, poles),
         Curve3::BSpline {
             rational,
             flag,
@@ -43,26 +37,24 @@ fn start<'a>(curve: &'a Curve3) -> Spell3<'a>
             poles,
             knots,
             multiplicities,
-        } => Spell3 {
-            part: spline(
-                (*rational, *flag),
-                *degree,
-                *pole_count,
-                poles,
-                knots,
-                multiplicities,
-            ),
-            basis: None,
-        },
-        Curve3::Trimmed { texts, basis } => Spell3 {
-            part: coded(8, texts),
-            basis: Some(basis.get()),
-        },
-        Curve3::Offset { texts, basis } => Spell3 {
-            part: coded(9, texts),
-            basis: Some(basis.get()),
-        },
-    }
+        } => {
+            let flags = (*rational, *flag);
+            spline(flags, *degree, *pole_count, poles, knots, multiplicities)
+        }
+        Curve3::Trimmed { texts, basis } => {
+            return Spell3 {
+                part: coded(8, texts),
+                basis: Some(basis.get()),
+            };
+        }
+        Curve3::Offset { texts, basis } => {
+            return Spell3 {
+                part: coded(9, texts),
+                basis: Some(basis.get()),
+            };
+        }
+    };
+    Spell3 { part, basis: None }
 }
 
 impl Curve3 {

@@ -5,4 +5,4 @@ mod reading;
 mod tokens;
 
 pub use reading::{entries, entry};
-pub use tokens::{append, short, texts};
+pub use tokens::{append, row, short, texts};

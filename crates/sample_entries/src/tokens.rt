@@ -36,3 +36,14 @@ pub fn append(said: &mut String, text: &TokenText) -> Result<(), Fail> {
     said.push_str(str::from_utf8(text.bytes()).unwrap_or("?"))?;
     Ok(())
 }
+
+/// The text that a line of a table gives, and what is to be said of it: `text -> said`, or `count: text`, which is itself to be said.
+pub fn row<'a>(line: &'a str) -> Option<(&'a str, &'a str)> {
+    if let Some((text, said)) = line.split_once(" -> ") {
+        return Some((text.trim(), said));
+    }
+    match line.split_once(": ") {
+        Some((_, text)) => Some((text, line.trim())),
+        None => None,
+    }
+}
