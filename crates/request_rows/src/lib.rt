@@ -1,0 +1,7 @@
+//! Tests of the requests of a step.
+#![tactic(auto)]
+
+#[cfg(test)]
+mod requests;
+#[cfg(test)]
+mod same;
