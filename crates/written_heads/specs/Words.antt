@@ -3,7 +3,7 @@ use Rattle.std.specs.Prelude.{◌≡◌, ◌<◌, ◌≤◌, ◌+◌, ℕ, List,
 use Rattle.std.specs.Fmt.{decimal}
 use Rattle.std.specs.List.{flat_map, join_with_byte}
 use Rattle.brep_tokens.specs.Written.{line_text, lines_text}
-use Rattle.tshape_data.specs.Columns.{edge_number, edge_texts, second_texts}
+use Rattle.tshape_data.specs.Columns.{edge_texts, second_texts}
 use Rattle.tshape_data.specs.Lines.{edge_rep_lines, head_lines, number_words, payload_lines, point_line, uv_lines}
 use Rattle.tshape_data.specs.Locations.{renumbered_edge_rep, renumbered_head, renumbered_payload, renumbered_point}
 use Rattle.tshape_data.specs.Parts.{texts_in}
@@ -51,10 +51,6 @@ pub record IsWritableEdge (s : WrittenLocations) (version : ℕ) (r : EdgeRep) :
 pub record IsWritablePoint (s : WrittenLocations) (p : PointRep) : Type 0 where
   pub texts : length (texts_of_point p) ≡ 1 + second_texts (form_of_point p)
   pub locations : All (IsWritten s) (point_locations p)
-
--- the number of the form, and the words of the other numbers
-abbrev pub numbers_text : EdgeRep → List ℕ
-numbers_text r = decimal (edge_number (form_of_edge r)) ++ spaced (number_words r)
 
 -- the two parameters and the end of the line, and the line of the UV points
 abbrev pub decimals_text : List (List ℕ) → List ℕ
