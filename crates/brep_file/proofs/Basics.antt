@@ -1,6 +1,5 @@
 -- Small steps of reading.
 use Rattle.std.proofs.Common.{◌≡◌, ◌&&◌, Bool, true, false, if◌then◌else◌, List, Option, Some, None, Result, Ok, Err, refl, ap, subst}
-use Rattle.lists.specs.Results.{◌>>=◌}
 use Rattle.entry_readers.specs.Reading.{Refusal, spelled}
 use Rattle.lists.proofs.Results.{ok_is}
 use Rattle.brep_tokens.specs.declared.text.Token.{Token}
@@ -26,10 +25,6 @@ spelled_ok code t ts rest None x e = absurd cc
 pub chosen : {A : Type 0} (b : Bool) (x : A) (o : Option A) (y : A) (P : A → Type 0) → (if b then Some x else o) ≡ Some y → (b ≡ true → P x) → (o ≡ Some y → P y) → P y
 chosen true x o y P e first others = subst P (some_is e) (first refl)
 chosen false x o y P e first others = others e
-
-pub bind_assoc : {A B C : Type 0} (r : Result A Refusal) (f : A → Result B Refusal) (g : B → Result C Refusal) → ((r >>= f) >>= g) ≡ (r >>= λ x. f x >>= g)
-bind_assoc (Ok x) f g = refl
-bind_assoc (Err d) f g = refl
 
 abbrev pub paired : {A : Type 0} → A → List Token → A × List Token
 paired x ts = (x, ts)

@@ -13,7 +13,7 @@ use Rattle.entry_readers.specs.Begins.{Begins, IsExact, FieldsAreExact}
 use Rattle.lists.proofs.Results.{bind_ok, guard_ok, ok_is}
 use Rattle.orientation.specs.declared.turn.Turn.{Turn}
 use Rattle.orientation.specs.Laws.{SignsAndNamesTell}
-use Rattle.location_table.specs.Laws.{LocationsAreExact}
+use Rattle.location_table.specs.Sections.{SectionsAreExact}
 use Rattle.location_table.specs.Locations.{spell_location}
 use Rattle.curve_tables.specs.Curves.{curve2_at, curve3_at}
 use Rattle.curve_tables.specs.Laws.{CurvesAreExact}
@@ -35,7 +35,7 @@ use Rattle.brep_file.specs.declared.uses.FileUse.{FileUse}
 use Rattle.brep_file.specs.declared.file.File.{File}
 use Rattle.brep_file.specs.Sound.{Limits, IsSoundTable, sizes_of}
 use Rattle.brep_file.specs.Spelling.{section, spell_use, spell_record, spell_file}
-use Rattle.brep_file.specs.SectionReading.{heading_at, section_at, locations_at}
+use Rattle.brep_file.specs.SectionReading.{heading_at, section_at, location_section_at}
 use Rattle.brep_file.specs.FileReading.{begun, from_root, from_records, from_meshes, from_surfaces, from_polygons_on, from_polygons, from_curves, from_curve2s, from_locations}
 use Rattle.brep_file.specs.RecordReading.{RecordBounds, SoFar, nothing_read, records_from, use_of, root_named, root_located, root_at}
 use Rattle.brep_file.proofs.Basics.{and_true, both}
@@ -136,7 +136,7 @@ spell_from_records f = section (codes "TShapes") (spell_record f.version) f.reco
 
 -- ---- any section before the records
 
-module _ {A : Type 0} (read : List Token → Read (List A)) (spell : List A → List (List ℕ)) (P : List A → Type 0) (exact : IsExact read spell P)
+module _ (fields : FieldsAreExact) {A : Type 0} (read : List Token → Read (List A)) (spell : List A → List (List ℕ)) (P : List A → Type 0) (exact : IsExact read spell P)
     (put : File → List A → File) (get : File → List A) (next : File → List Token → Read File) (tail : File → List (List ℕ)) (Fits : File → Type 0) (Keeps : File → File → Type 0) where
   table_takes : ((f : File) (ts rest : List Token) (g : File) → next f ts ≡ Ok (g, rest) → Begins ts (tail g) rest × Fits g × Keeps f g) → ((f : File) (xs : List A) (g : File) → Keeps (put f xs) g → get g ≡ xs)
       → (f : File) (ts rest : List Token) (g : File) → (read ts >>= λ x. next (put f x.0) x.1) ≡ Ok (g, rest) → Begins ts (spell (get g) ++ tail g) rest × (P (get g) × Fits g) × Keeps (put f (get g)) g
@@ -211,7 +211,7 @@ FitFile reps limits f = FitLocations limits.entries f.locations × FitCurve2s re
 abbrev ok_file : File → List Token → Read File
 ok_file f rest = Ok (f, rest)
 
-module _ (forms : FormsAreExact) (fields : FieldsAreExact) (names : SignsAndNamesTell) (locations : LocationsAreExact) (curves : CurvesAreExact) (meshes : MeshesAreExact) (surfaces : SurfacesAreExact) (heads : HeadsAreExact) (limits : Limits) where
+module _ (forms : FormsAreExact) (fields : FieldsAreExact) (names : SignsAndNamesTell) (locations : SectionsAreExact) (curves : CurvesAreExact) (meshes : MeshesAreExact) (surfaces : SurfacesAreExact) (heads : HeadsAreExact) (limits : Limits) where
   abbrev most : ℕ
   most = limits.entries
 
@@ -281,59 +281,59 @@ module _ (forms : FormsAreExact) (fields : FieldsAreExact) (names : SignsAndName
 
   meshes_takes : (f : File) (ts rest : List Token) (g : File) → from_meshes limits f ts ≡ Ok (g, rest) → Begins ts (spell_from_meshes g) rest × FitMeshes most_reps limits g × KeepsMeshes f g
   unfolding from_meshes
-  meshes_takes f ts rest g e = table_takes (section_at (codes "Triangulations") most mesh_at) (section (codes "Triangulations") spell_mesh) (FitsTable IsSoundMesh limits) (section_is_exact fields (codes "Triangulations") most mesh_at spell_mesh IsSoundMesh meshes.mesh) (λ f xs. record f { meshes = xs }) (λ f. f.meshes) (from_records limits) spell_from_records (λ g. FitRecords most_reps limits g × FitsEnd g) KeepsRecords records_from_takes (λ f xs g keeps. ap (λ (h : File). h.meshes) keeps) f ts rest g e
+  meshes_takes f ts rest g e = table_takes fields (section_at (codes "Triangulations") most mesh_at) (section (codes "Triangulations") spell_mesh) (FitsTable IsSoundMesh limits) (section_is_exact fields (codes "Triangulations") most mesh_at spell_mesh IsSoundMesh meshes.mesh) (λ f xs. record f { meshes = xs }) (λ f. f.meshes) (from_records limits) spell_from_records (λ g. FitRecords most_reps limits g × FitsEnd g) KeepsRecords records_from_takes (λ f xs g keeps. ap (λ (h : File). h.meshes) keeps) f ts rest g e
 
   meshes_again : (f : File) (ts rest : List Token) (g : File) → Begins ts (spell_from_meshes g) rest → FitMeshes most_reps limits g → KeepsMeshes f g → from_meshes limits f ts ≡ Ok (g, rest)
   unfolding from_meshes
-  meshes_again f ts rest g b fits keeps = table_again (section_at (codes "Triangulations") most mesh_at) (section (codes "Triangulations") spell_mesh) (FitsTable IsSoundMesh limits) (section_is_exact fields (codes "Triangulations") most mesh_at spell_mesh IsSoundMesh meshes.mesh) (λ f xs. record f { meshes = xs }) (λ f. f.meshes) (from_records limits) spell_from_records (λ g. FitRecords most_reps limits g × FitsEnd g) KeepsRecords records_from_again f ts rest g b fits keeps
+  meshes_again f ts rest g b fits keeps = table_again fields (section_at (codes "Triangulations") most mesh_at) (section (codes "Triangulations") spell_mesh) (FitsTable IsSoundMesh limits) (section_is_exact fields (codes "Triangulations") most mesh_at spell_mesh IsSoundMesh meshes.mesh) (λ f xs. record f { meshes = xs }) (λ f. f.meshes) (from_records limits) spell_from_records (λ g. FitRecords most_reps limits g × FitsEnd g) KeepsRecords records_from_again f ts rest g b fits keeps
 
   surfaces_takes : (f : File) (ts rest : List Token) (g : File) → from_surfaces limits f ts ≡ Ok (g, rest) → Begins ts (spell_from_surfaces g) rest × FitSurfaces most_reps limits g × KeepsSurfaces f g
   unfolding from_surfaces
-  surfaces_takes f ts rest g e = table_takes (section_at (codes "Surfaces") most surface_at) (section (codes "Surfaces") spell_surface) (FitsTable IsSoundSurface limits) (section_is_exact fields (codes "Surfaces") most surface_at spell_surface IsSoundSurface surfaces.surface) (λ f xs. record f { surfaces = xs }) (λ f. f.surfaces) (from_meshes limits) spell_from_meshes (FitMeshes most_reps limits) KeepsMeshes meshes_takes (λ f xs g keeps. ap (λ (h : File). h.surfaces) keeps) f ts rest g e
+  surfaces_takes f ts rest g e = table_takes fields (section_at (codes "Surfaces") most surface_at) (section (codes "Surfaces") spell_surface) (FitsTable IsSoundSurface limits) (section_is_exact fields (codes "Surfaces") most surface_at spell_surface IsSoundSurface surfaces.surface) (λ f xs. record f { surfaces = xs }) (λ f. f.surfaces) (from_meshes limits) spell_from_meshes (FitMeshes most_reps limits) KeepsMeshes meshes_takes (λ f xs g keeps. ap (λ (h : File). h.surfaces) keeps) f ts rest g e
 
   surfaces_again : (f : File) (ts rest : List Token) (g : File) → Begins ts (spell_from_surfaces g) rest → FitSurfaces most_reps limits g → KeepsSurfaces f g → from_surfaces limits f ts ≡ Ok (g, rest)
   unfolding from_surfaces
-  surfaces_again f ts rest g b fits keeps = table_again (section_at (codes "Surfaces") most surface_at) (section (codes "Surfaces") spell_surface) (FitsTable IsSoundSurface limits) (section_is_exact fields (codes "Surfaces") most surface_at spell_surface IsSoundSurface surfaces.surface) (λ f xs. record f { surfaces = xs }) (λ f. f.surfaces) (from_meshes limits) spell_from_meshes (FitMeshes most_reps limits) KeepsMeshes meshes_again f ts rest g b fits keeps
+  surfaces_again f ts rest g b fits keeps = table_again fields (section_at (codes "Surfaces") most surface_at) (section (codes "Surfaces") spell_surface) (FitsTable IsSoundSurface limits) (section_is_exact fields (codes "Surfaces") most surface_at spell_surface IsSoundSurface surfaces.surface) (λ f xs. record f { surfaces = xs }) (λ f. f.surfaces) (from_meshes limits) spell_from_meshes (FitMeshes most_reps limits) KeepsMeshes meshes_again f ts rest g b fits keeps
 
   polygons_on_takes : (f : File) (ts rest : List Token) (g : File) → from_polygons_on limits f ts ≡ Ok (g, rest) → Begins ts (spell_from_polygons_on g) rest × FitPolygonsOn most_reps limits g × KeepsPolygonsOn f g
   unfolding from_polygons_on
-  polygons_on_takes f ts rest g e = table_takes (section_at (codes "PolygonOnTriangulations") most polygon_on_at) (section (codes "PolygonOnTriangulations") spell_polygon_on) (FitsTable IsSoundPolygonOn limits) (section_is_exact fields (codes "PolygonOnTriangulations") most polygon_on_at spell_polygon_on IsSoundPolygonOn meshes.polygon_on) (λ f xs. record f { polygons_on = xs }) (λ f. f.polygons_on) (from_surfaces limits) spell_from_surfaces (FitSurfaces most_reps limits) KeepsSurfaces surfaces_takes (λ f xs g keeps. ap (λ (h : File). h.polygons_on) keeps) f ts rest g e
+  polygons_on_takes f ts rest g e = table_takes fields (section_at (codes "PolygonOnTriangulations") most polygon_on_at) (section (codes "PolygonOnTriangulations") spell_polygon_on) (FitsTable IsSoundPolygonOn limits) (section_is_exact fields (codes "PolygonOnTriangulations") most polygon_on_at spell_polygon_on IsSoundPolygonOn meshes.polygon_on) (λ f xs. record f { polygons_on = xs }) (λ f. f.polygons_on) (from_surfaces limits) spell_from_surfaces (FitSurfaces most_reps limits) KeepsSurfaces surfaces_takes (λ f xs g keeps. ap (λ (h : File). h.polygons_on) keeps) f ts rest g e
 
   polygons_on_again : (f : File) (ts rest : List Token) (g : File) → Begins ts (spell_from_polygons_on g) rest → FitPolygonsOn most_reps limits g → KeepsPolygonsOn f g → from_polygons_on limits f ts ≡ Ok (g, rest)
   unfolding from_polygons_on
-  polygons_on_again f ts rest g b fits keeps = table_again (section_at (codes "PolygonOnTriangulations") most polygon_on_at) (section (codes "PolygonOnTriangulations") spell_polygon_on) (FitsTable IsSoundPolygonOn limits) (section_is_exact fields (codes "PolygonOnTriangulations") most polygon_on_at spell_polygon_on IsSoundPolygonOn meshes.polygon_on) (λ f xs. record f { polygons_on = xs }) (λ f. f.polygons_on) (from_surfaces limits) spell_from_surfaces (FitSurfaces most_reps limits) KeepsSurfaces surfaces_again f ts rest g b fits keeps
+  polygons_on_again f ts rest g b fits keeps = table_again fields (section_at (codes "PolygonOnTriangulations") most polygon_on_at) (section (codes "PolygonOnTriangulations") spell_polygon_on) (FitsTable IsSoundPolygonOn limits) (section_is_exact fields (codes "PolygonOnTriangulations") most polygon_on_at spell_polygon_on IsSoundPolygonOn meshes.polygon_on) (λ f xs. record f { polygons_on = xs }) (λ f. f.polygons_on) (from_surfaces limits) spell_from_surfaces (FitSurfaces most_reps limits) KeepsSurfaces surfaces_again f ts rest g b fits keeps
 
   polygons_takes : (f : File) (ts rest : List Token) (g : File) → from_polygons limits f ts ≡ Ok (g, rest) → Begins ts (spell_from_polygons g) rest × FitPolygons most_reps limits g × KeepsPolygons f g
   unfolding from_polygons
-  polygons_takes f ts rest g e = table_takes (section_at (codes "Polygon3D") most polygon_at) (section (codes "Polygon3D") spell_polygon) (FitsTable IsSoundPolygon limits) (section_is_exact fields (codes "Polygon3D") most polygon_at spell_polygon IsSoundPolygon meshes.polygon) (λ f xs. record f { polygons = xs }) (λ f. f.polygons) (from_polygons_on limits) spell_from_polygons_on (FitPolygonsOn most_reps limits) KeepsPolygonsOn polygons_on_takes (λ f xs g keeps. ap (λ (h : File). h.polygons) keeps) f ts rest g e
+  polygons_takes f ts rest g e = table_takes fields (section_at (codes "Polygon3D") most polygon_at) (section (codes "Polygon3D") spell_polygon) (FitsTable IsSoundPolygon limits) (section_is_exact fields (codes "Polygon3D") most polygon_at spell_polygon IsSoundPolygon meshes.polygon) (λ f xs. record f { polygons = xs }) (λ f. f.polygons) (from_polygons_on limits) spell_from_polygons_on (FitPolygonsOn most_reps limits) KeepsPolygonsOn polygons_on_takes (λ f xs g keeps. ap (λ (h : File). h.polygons) keeps) f ts rest g e
 
   polygons_again : (f : File) (ts rest : List Token) (g : File) → Begins ts (spell_from_polygons g) rest → FitPolygons most_reps limits g → KeepsPolygons f g → from_polygons limits f ts ≡ Ok (g, rest)
   unfolding from_polygons
-  polygons_again f ts rest g b fits keeps = table_again (section_at (codes "Polygon3D") most polygon_at) (section (codes "Polygon3D") spell_polygon) (FitsTable IsSoundPolygon limits) (section_is_exact fields (codes "Polygon3D") most polygon_at spell_polygon IsSoundPolygon meshes.polygon) (λ f xs. record f { polygons = xs }) (λ f. f.polygons) (from_polygons_on limits) spell_from_polygons_on (FitPolygonsOn most_reps limits) KeepsPolygonsOn polygons_on_again f ts rest g b fits keeps
+  polygons_again f ts rest g b fits keeps = table_again fields (section_at (codes "Polygon3D") most polygon_at) (section (codes "Polygon3D") spell_polygon) (FitsTable IsSoundPolygon limits) (section_is_exact fields (codes "Polygon3D") most polygon_at spell_polygon IsSoundPolygon meshes.polygon) (λ f xs. record f { polygons = xs }) (λ f. f.polygons) (from_polygons_on limits) spell_from_polygons_on (FitPolygonsOn most_reps limits) KeepsPolygonsOn polygons_on_again f ts rest g b fits keeps
 
   curves_takes : (f : File) (ts rest : List Token) (g : File) → from_curves limits f ts ≡ Ok (g, rest) → Begins ts (spell_from_curves g) rest × FitCurves most_reps limits g × KeepsCurves f g
   unfolding from_curves
-  curves_takes f ts rest g e = table_takes (section_at (codes "Curves") most (curve3_at 0)) (section (codes "Curves") spelling3) (FitsTable (IsSound3 0) limits) (section_is_exact fields (codes "Curves") most (curve3_at 0) spelling3 (IsSound3 0) (curves.curve3 0 (omega arith))) (λ f xs. record f { curves = xs }) (λ f. f.curves) (from_polygons limits) spell_from_polygons (FitPolygons most_reps limits) KeepsPolygons polygons_takes (λ f xs g keeps. ap (λ (h : File). h.curves) keeps) f ts rest g e
+  curves_takes f ts rest g e = table_takes fields (section_at (codes "Curves") most (curve3_at 0)) (section (codes "Curves") spelling3) (FitsTable (IsSound3 0) limits) (section_is_exact fields (codes "Curves") most (curve3_at 0) spelling3 (IsSound3 0) (curves.curve3 0 (omega arith))) (λ f xs. record f { curves = xs }) (λ f. f.curves) (from_polygons limits) spell_from_polygons (FitPolygons most_reps limits) KeepsPolygons polygons_takes (λ f xs g keeps. ap (λ (h : File). h.curves) keeps) f ts rest g e
 
   curves_again : (f : File) (ts rest : List Token) (g : File) → Begins ts (spell_from_curves g) rest → FitCurves most_reps limits g → KeepsCurves f g → from_curves limits f ts ≡ Ok (g, rest)
   unfolding from_curves
-  curves_again f ts rest g b fits keeps = table_again (section_at (codes "Curves") most (curve3_at 0)) (section (codes "Curves") spelling3) (FitsTable (IsSound3 0) limits) (section_is_exact fields (codes "Curves") most (curve3_at 0) spelling3 (IsSound3 0) (curves.curve3 0 (omega arith))) (λ f xs. record f { curves = xs }) (λ f. f.curves) (from_polygons limits) spell_from_polygons (FitPolygons most_reps limits) KeepsPolygons polygons_again f ts rest g b fits keeps
+  curves_again f ts rest g b fits keeps = table_again fields (section_at (codes "Curves") most (curve3_at 0)) (section (codes "Curves") spelling3) (FitsTable (IsSound3 0) limits) (section_is_exact fields (codes "Curves") most (curve3_at 0) spelling3 (IsSound3 0) (curves.curve3 0 (omega arith))) (λ f xs. record f { curves = xs }) (λ f. f.curves) (from_polygons limits) spell_from_polygons (FitPolygons most_reps limits) KeepsPolygons polygons_again f ts rest g b fits keeps
 
   curve2s_takes : (f : File) (ts rest : List Token) (g : File) → from_curve2s limits f ts ≡ Ok (g, rest) → Begins ts (spell_from_curve2s g) rest × FitCurve2s most_reps limits g × KeepsCurve2s f g
   unfolding from_curve2s
-  curve2s_takes f ts rest g e = table_takes (section_at (codes "Curve2ds") most curve2_at) (section (codes "Curve2ds") spelling2) (FitsTable IsSound2 limits) (section_is_exact fields (codes "Curve2ds") most curve2_at spelling2 IsSound2 curves.curve2) (λ f xs. record f { curve2s = xs }) (λ f. f.curve2s) (from_curves limits) spell_from_curves (FitCurves most_reps limits) KeepsCurves curves_takes (λ f xs g keeps. ap (λ (h : File). h.curve2s) keeps) f ts rest g e
+  curve2s_takes f ts rest g e = table_takes fields (section_at (codes "Curve2ds") most curve2_at) (section (codes "Curve2ds") spelling2) (FitsTable IsSound2 limits) (section_is_exact fields (codes "Curve2ds") most curve2_at spelling2 IsSound2 curves.curve2) (λ f xs. record f { curve2s = xs }) (λ f. f.curve2s) (from_curves limits) spell_from_curves (FitCurves most_reps limits) KeepsCurves curves_takes (λ f xs g keeps. ap (λ (h : File). h.curve2s) keeps) f ts rest g e
 
   curve2s_again : (f : File) (ts rest : List Token) (g : File) → Begins ts (spell_from_curve2s g) rest → FitCurve2s most_reps limits g → KeepsCurve2s f g → from_curve2s limits f ts ≡ Ok (g, rest)
   unfolding from_curve2s
-  curve2s_again f ts rest g b fits keeps = table_again (section_at (codes "Curve2ds") most curve2_at) (section (codes "Curve2ds") spelling2) (FitsTable IsSound2 limits) (section_is_exact fields (codes "Curve2ds") most curve2_at spelling2 IsSound2 curves.curve2) (λ f xs. record f { curve2s = xs }) (λ f. f.curve2s) (from_curves limits) spell_from_curves (FitCurves most_reps limits) KeepsCurves curves_again f ts rest g b fits keeps
+  curve2s_again f ts rest g b fits keeps = table_again fields (section_at (codes "Curve2ds") most curve2_at) (section (codes "Curve2ds") spelling2) (FitsTable IsSound2 limits) (section_is_exact fields (codes "Curve2ds") most curve2_at spelling2 IsSound2 curves.curve2) (λ f xs. record f { curve2s = xs }) (λ f. f.curve2s) (from_curves limits) spell_from_curves (FitCurves most_reps limits) KeepsCurves curves_again f ts rest g b fits keeps
 
   locations_takes : (f : File) (ts rest : List Token) (g : File) → from_locations limits f ts ≡ Ok (g, rest) → Begins ts (spell_from_locations g) rest × FitFile most_reps limits g × KeepsLocations f g
   unfolding from_locations
-  locations_takes f ts rest g e = table_takes (locations_at most) (section (codes "Locations") spell_location) (FitLocations most) (locations_section locations fields most) (λ f xs. record f { locations = xs }) (λ f. f.locations) (from_curve2s limits) spell_from_curve2s (FitCurve2s most_reps limits) KeepsCurve2s curve2s_takes (λ f xs g keeps. ap (λ (h : File). h.locations) keeps) f ts rest g e
+  locations_takes f ts rest g e = table_takes fields (location_section_at most) (section (codes "Locations") spell_location) (FitLocations most) (locations_section locations fields most) (λ f xs. record f { locations = xs }) (λ f. f.locations) (from_curve2s limits) spell_from_curve2s (FitCurve2s most_reps limits) KeepsCurve2s curve2s_takes (λ f xs g keeps. ap (λ (h : File). h.locations) keeps) f ts rest g e
 
   locations_again : (f : File) (ts rest : List Token) (g : File) → Begins ts (spell_from_locations g) rest → FitFile most_reps limits g → KeepsLocations f g → from_locations limits f ts ≡ Ok (g, rest)
   unfolding from_locations
-  locations_again f ts rest g b fits keeps = table_again (locations_at most) (section (codes "Locations") spell_location) (FitLocations most) (locations_section locations fields most) (λ f xs. record f { locations = xs }) (λ f. f.locations) (from_curve2s limits) spell_from_curve2s (FitCurve2s most_reps limits) KeepsCurve2s curve2s_again f ts rest g b fits keeps
+  locations_again f ts rest g b fits keeps = table_again fields (location_section_at most) (section (codes "Locations") spell_location) (FitLocations most) (locations_section locations fields most) (λ f xs. record f { locations = xs }) (λ f. f.locations) (from_curve2s limits) spell_from_curve2s (FitCurve2s most_reps limits) KeepsCurve2s curve2s_again f ts rest g b fits keeps
 
   -- ---- the whole
 

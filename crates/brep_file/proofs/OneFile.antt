@@ -9,7 +9,7 @@ use Rattle.entry_readers.specs.Reading.{Read}
 use Rattle.entry_readers.specs.Begins.{Begins, IsExact, FieldsAreExact}
 use Rattle.lists.proofs.Results.{ok_is}
 use Rattle.orientation.specs.Laws.{SignsAndNamesTell}
-use Rattle.location_table.specs.Laws.{LocationsAreExact}
+use Rattle.location_table.specs.Sections.{SectionsAreExact}
 use Rattle.location_table.specs.Locations.{spell_location}
 use Rattle.location_table.specs.declared.entry.LocationEntry.{LocationEntry}
 use Rattle.curve_tables.specs.Curves.{curve2_at, curve3_at}
@@ -34,7 +34,7 @@ use Rattle.brep_file.specs.declared.file.File.{File}
 use Rattle.brep_file.specs.Sound.{Limits, sizes_of}
 use Rattle.brep_file.specs.Spelling.{section, spell_use, spell_record, spell_file}
 use Rattle.brep_file.specs.RecordReading.{RecordBounds, Gathered, SoFar, none_gathered, nothing_read, root_at, uses_from}
-use Rattle.brep_file.specs.SectionReading.{locations_at, section_at}
+use Rattle.brep_file.specs.SectionReading.{location_section_at, section_at}
 use Rattle.brep_file.proofs.LocationLaws.{FitLocations, locations_section}
 use Rattle.brep_file.proofs.SectionLaws.{heading_again, section_is_exact}
 use Rattle.brep_file.proofs.UseLaws.{spell_uses, uses_again, with_uses, with_uses-uses}
@@ -43,7 +43,7 @@ use Rattle.brep_file.proofs.FileLaws.{FitFile, FitRecords, FitsEnd, FitsTable, b
 
 -- ---- what is read exactly is spelled once
 
-module _ {A : Type 0} (read : List Token → Read A) (spell : A → List (List ℕ)) (P : A → Type 0) (exact : IsExact read spell P) where
+module _ (fields : FieldsAreExact) {A : Type 0} (read : List Token → Read A) (spell : A → List (List ℕ)) (P : A → Type 0) (exact : IsExact read spell P) where
   pub record AreOne (x y : A) (tail_x tail_y : List (List ℕ)) (rest other : List Token) : Type 0 where
     pub same : x ≡ y
     pub between : List Token
@@ -126,7 +126,7 @@ alike_same f g a records root =
     ∙ ap (λ z. record g { records = z; root = f.root }) records
     ∙ ap (λ z. record g { root = z }) root
 
-module _ (forms : FormsAreExact) (fields : FieldsAreExact) (names : SignsAndNamesTell) (locations : LocationsAreExact) (curves : CurvesAreExact) (meshes : MeshesAreExact) (surfaces : SurfacesAreExact) (tell : HeadsTell) (limits : Limits) (reps : ℕ) where
+module _ (forms : FormsAreExact) (fields : FieldsAreExact) (names : SignsAndNamesTell) (locations : SectionsAreExact) (curves : CurvesAreExact) (meshes : MeshesAreExact) (surfaces : SurfacesAreExact) (tell : HeadsTell) (limits : Limits) (reps : ℕ) where
   abbrev most : ℕ
   most = limits.entries
 
@@ -166,19 +166,19 @@ module _ (forms : FormsAreExact) (fields : FieldsAreExact) (names : SignsAndName
   one_file f g ts rest other version fit_f fit_g begins_f begins_g =
       let from_f = subst (λ z. Begins ts z rest) (regrouped f) begins_f in
       let from_g = subst (λ z. Begins ts z other) (regrouped g) begins_g in
-      let places = one_value (locations_at most) (section (codes "Locations") spell_location) (FitLocations most) (locations_section locations fields most)
+      let places = one_value fields (location_section_at most) (section (codes "Locations") spell_location) (FitLocations most) (locations_section locations fields most)
       f.locations g.locations (spell_from_curve2s f) (spell_from_curve2s g) ts rest other fit_f.0 fit_g.0 from_f from_g in
-      let curve2s = one_value (section_at (codes "Curve2ds") most curve2_at) (section (codes "Curve2ds") spelling2) (FitsTable IsSound2 limits) (section_is_exact fields (codes "Curve2ds") most curve2_at spelling2 IsSound2 curves.curve2)
+      let curve2s = one_value fields (section_at (codes "Curve2ds") most curve2_at) (section (codes "Curve2ds") spelling2) (FitsTable IsSound2 limits) (section_is_exact fields (codes "Curve2ds") most curve2_at spelling2 IsSound2 curves.curve2)
       f.curve2s g.curve2s (spell_from_curves f) (spell_from_curves g) places.between rest other fit_f.1.0 fit_g.1.0 places.first places.second in
-      let curve3s = one_value (section_at (codes "Curves") most (curve3_at 0)) (section (codes "Curves") spelling3) (FitsTable (IsSound3 0) limits) (section_is_exact fields (codes "Curves") most (curve3_at 0) spelling3 (IsSound3 0) (curves.curve3 0 (omega arith)))
+      let curve3s = one_value fields (section_at (codes "Curves") most (curve3_at 0)) (section (codes "Curves") spelling3) (FitsTable (IsSound3 0) limits) (section_is_exact fields (codes "Curves") most (curve3_at 0) spelling3 (IsSound3 0) (curves.curve3 0 (omega arith)))
       f.curves g.curves (spell_from_polygons f) (spell_from_polygons g) curve2s.between rest other fit_f.1.1.0 fit_g.1.1.0 curve2s.first curve2s.second in
-      let polygons = one_value (section_at (codes "Polygon3D") most polygon_at) (section (codes "Polygon3D") spell_polygon) (FitsTable IsSoundPolygon limits) (section_is_exact fields (codes "Polygon3D") most polygon_at spell_polygon IsSoundPolygon meshes.polygon)
+      let polygons = one_value fields (section_at (codes "Polygon3D") most polygon_at) (section (codes "Polygon3D") spell_polygon) (FitsTable IsSoundPolygon limits) (section_is_exact fields (codes "Polygon3D") most polygon_at spell_polygon IsSoundPolygon meshes.polygon)
       f.polygons g.polygons (spell_from_polygons_on f) (spell_from_polygons_on g) curve3s.between rest other fit_f.1.1.1.0 fit_g.1.1.1.0 curve3s.first curve3s.second in
-      let polygons_on = one_value (section_at (codes "PolygonOnTriangulations") most polygon_on_at) (section (codes "PolygonOnTriangulations") spell_polygon_on) (FitsTable IsSoundPolygonOn limits) (section_is_exact fields (codes "PolygonOnTriangulations") most polygon_on_at spell_polygon_on IsSoundPolygonOn meshes.polygon_on)
+      let polygons_on = one_value fields (section_at (codes "PolygonOnTriangulations") most polygon_on_at) (section (codes "PolygonOnTriangulations") spell_polygon_on) (FitsTable IsSoundPolygonOn limits) (section_is_exact fields (codes "PolygonOnTriangulations") most polygon_on_at spell_polygon_on IsSoundPolygonOn meshes.polygon_on)
       f.polygons_on g.polygons_on (spell_from_surfaces f) (spell_from_surfaces g) polygons.between rest other fit_f.1.1.1.1.0 fit_g.1.1.1.1.0 polygons.first polygons.second in
-      let faces = one_value (section_at (codes "Surfaces") most surface_at) (section (codes "Surfaces") spell_surface) (FitsTable IsSoundSurface limits) (section_is_exact fields (codes "Surfaces") most surface_at spell_surface IsSoundSurface surfaces.surface)
+      let faces = one_value fields (section_at (codes "Surfaces") most surface_at) (section (codes "Surfaces") spell_surface) (FitsTable IsSoundSurface limits) (section_is_exact fields (codes "Surfaces") most surface_at spell_surface IsSoundSurface surfaces.surface)
       f.surfaces g.surfaces (spell_from_meshes f) (spell_from_meshes g) polygons_on.between rest other fit_f.1.1.1.1.1.0 fit_g.1.1.1.1.1.0 polygons_on.first polygons_on.second in
-      let nets = one_value (section_at (codes "Triangulations") most mesh_at) (section (codes "Triangulations") spell_mesh) (FitsTable IsSoundMesh limits) (section_is_exact fields (codes "Triangulations") most mesh_at spell_mesh IsSoundMesh meshes.mesh)
+      let nets = one_value fields (section_at (codes "Triangulations") most mesh_at) (section (codes "Triangulations") spell_mesh) (FitsTable IsSoundMesh limits) (section_is_exact fields (codes "Triangulations") most mesh_at spell_mesh IsSoundMesh meshes.mesh)
       f.meshes g.meshes (spell_from_records f) (spell_from_records g) faces.between rest other fit_f.1.1.1.1.1.1.0 fit_g.1.1.1.1.1.1.0 faces.first faces.second in
       let alike : AreAlike f g = record { version = version; locations = places.same; curve2s = curve2s.same; curves = curve3s.same; polygons = polygons.same; polygons_on = polygons_on.same; surfaces = faces.same; meshes = nets.same } in
       let ends_f = fit_f.1.1.1.1.1.1.1 in

@@ -1,6 +1,5 @@
 -- Reading token by token from a scanner.
-use Rattle.std.proofs.Common.{◌≡◌, ℕ, zero, suc, ◌+◌, ◌-◌, ◌<◌, ◌≤◌, List, [], ◌∷◌, ◌++◌, Result, Ok, Err, refl, sym, ap, subst, ◌∙◌, arith}
-use Rattle.entry_readers.specs.Entries.{entries_from}
+use Rattle.std.proofs.Common.{◌≡◌, List, ◌∷◌, Result, Ok, Err, IsErrAnd, refl, sym, ap, subst, ◌∙◌}
 use Rattle.brep_tokens.specs.State.{Scan}
 use Rattle.brep_tokens.specs.declared.fault.ReadStop.{ReadStop}
 use Rattle.brep_tokens.specs.declared.fault.ReadStop.TheVariants as stops
@@ -30,45 +29,26 @@ fails_later old new (Ok x) (stops.Fault f) goes is = absurd is
 fails_later old new (Err more) (stops.Fault f) goes is = sym (same_missing old new goes) ∙ is
 fails_later old new (Err (fault g)) (stops.Fault f) goes is = is
 
--- ---- so many entries
-
-module _ {A : Type 0} (read : List Token → Read A) where
-  one_more : (xs : List A) (n : ℕ) (ts : List Token) → 0 < n → entries_from read xs n ts ≡ (read ts >>= λ x. entries_from read (xs ++ x.0 ∷ []) (n - 1) x.1)
-  one_more xs zero ts lt = absurd (omega (arith, lt))
-  one_more xs (suc n) ts lt =
-      let e : suc n - 1 ≡ n = omega arith in
-      rw e refl
-
-  module _ (start : Read (List A)) (s0 s : Scan) (xs : List A) (k i : ℕ) (lt : i < k) (goes : GoesTo s0 s) (so_far : entries_from read xs (k - i) (front s) ≡ start) where
-    due : 0 < k - i
-    due = omega (arith, lt)
-
-    pub entry_read : (x : A) (s' : Scan) → read (front s) ≡ Ok (x, front s') → entries_from read (xs ++ x ∷ []) (k - (i + 1)) (front s') ≡ start
-    entry_read x s' e =
-        let fewer : k - i - 1 ≡ k - (i + 1) = omega arith in
-        let step : entries_from read xs (k - i) (front s) ≡ entries_from read (xs ++ x ∷ []) (k - i - 1) (front s') = one_more xs (k - i) (front s) due ∙ rw e refl in
-        ap (λ n. entries_from read (xs ++ x ∷ []) n (front s')) (sym fewer) ∙ sym step ∙ so_far
-
-    pub entry_fails : (e : ReadStop) → Fails s (read (front s)) e → Fails s0 start e
-    entry_fails e is = fails_later s0 s start e goes (subst (λ (r : Read (List A)). Fails s r e) (sym (one_more xs (k - i) (front s) due) ∙ so_far) (fails_then s (read (front s)) (λ x. entries_from read (xs ++ x.0 ∷ []) (k - i - 1) x.1) e is))
-
-  pub entries_read : (start : Read (List A)) (s : Scan) (xs : List A) (k i : ℕ) → k ≤ i → entries_from read xs (k - i) (front s) ≡ start → start ≡ Ok (xs, front s)
-  entries_read start s xs k i le so_far =
-      let none : k - i ≡ 0 = omega (arith, le) in
-      sym so_far ∙ ap (λ n. entries_from read xs n (front s)) none
-
 -- reading goes on after what was read
 pub then_gives : {A B : Type 0} (read : List Token → Read A) (K : A × List Token → Read B) (old mid new : Scan) (x : A) (r : Result B ReadStop)
     → read (front old) ≡ Ok (x, front mid) → GoesTo old mid → Gives (λ y. y) (λ ts. K (x, ts)) mid new r → Gives (λ y. y) (λ ts. read ts >>= K) old new r
 then_gives read K old mid new x (Ok y) e goes h = (rw e h.0, further old mid new goes h.1)
 then_gives read K old mid new x (Err d) e goes h = rw e (fails_later old mid (K (x, front mid)) d goes h)
 
-pub same_gives : {B : Type 0} (read other : List Token → Read B) (old new : Scan) (r : Result B ReadStop) → read (front old) ≡ other (front old) → Gives (λ y. y) other old new r → Gives (λ y. y) read old new r
-same_gives read other old new (Ok y) e h = (e ∙ h.0, h.1)
-same_gives {B = B} read other old new (Err d) e h = subst (λ (r : Read B). Fails old r d) (sym e) h
+-- what reads the same gives the same
+pub same_gives : {X B : Type 0} (view : X → B) (read other : List Token → Read B) (old new : Scan) (r : Result X ReadStop) → read (front old) ≡ other (front old)
+    → Gives view other old new r → Gives view read old new r
+same_gives view read other old new (Ok y) e h = (e ∙ h.0, h.1)
+same_gives {B = B} view read other old new (Err d) e h = subst (λ (r : Read B). Fails old r d) (sym e) h
 
 -- a reader stops at the next token
 pub stop_fails : {A : Type 0} (left : List Token → Read A) (first s next : Scan) (t : Token) (start : Read A) (e : ReadStop) → left (front s) ≡ start → front s ≡ t ∷ front next → Stops left t e → Fails first start e
 stop_fails left first s next t start stops.NoMemory same here stop = tt
 stop_fails {A = A} left first s next t start (stops.Fault f) same here stop =
     subst (λ (r : Read A). Fails first r (stops.Fault f)) (sym (stop (front next)) ∙ sym (ap left here) ∙ same) refl
+
+-- what stops a step stops the whole
+pub stops_with : {X B : Type 0} (view : X → B) (read : List Token → Read B) (old new : Scan) (r : Result X ReadStop) (e : ReadStop)
+    → IsErrAnd r (λ z. z ≡ e) → Fails old (read (front old)) e → Gives view read old new r
+stops_with view read old new (Ok x) e wrong h = absurd wrong
+stops_with view read old new (Err z) e is h = subst (λ (w : ReadStop). Fails old (read (front old)) w) (sym is) h

@@ -7,7 +7,7 @@ use Rattle.brep_tokens.specs.Tokens.{Word}
 use Rattle.brep_tokens.specs.declared.text.Token.{Token}
 use Rattle.entry_readers.specs.Begins.{Begins, FieldsAreExact}
 use Rattle.orientation.specs.Laws.{SignsAndNamesTell}
-use Rattle.location_table.specs.Laws.{LocationsAreExact}
+use Rattle.location_table.specs.Sections.{SectionsAreExact}
 use Rattle.curve_tables.specs.Laws.{CurvesAreExact}
 use Rattle.surface_tables.specs.Laws.{SurfacesAreExact}
 use Rattle.mesh_tables.specs.Laws.{MeshesAreExact}
@@ -43,26 +43,32 @@ uses_in f = length (flat_map (λ r. r.uses) f.records)
 abbrev entries_in : File → ℕ
 entries_in f = length f.locations + (length f.curve2s + (length f.curves + (length f.polygons + (length f.polygons_on + (length f.surfaces + length f.meshes)))))
 
-module _ (scans : ScannerGivesTokens) (forms : FormsAreExact) (fields : FieldsAreExact) (names : SignsAndNamesTell) (locations : LocationsAreExact) (curves : CurvesAreExact) (meshes : MeshesAreExact) (surfaces : SurfacesAreExact) (heads : HeadsAreExact) (tell : HeadsTell) where
+module _ (scans : ScannerGivesTokens) (forms : FormsAreExact) (fields : FieldsAreExact) (names : SignsAndNamesTell) (locations : SectionsAreExact) (curves : CurvesAreExact) (meshes : MeshesAreExact) (surfaces : SurfacesAreExact) (heads : HeadsAreExact) (tell : HeadsTell) where
   -- within limits that are wide enough for both
+  one_of_tokens : (f g : File) (ts rest other : List Token) → f.version ≡ g.version → IsSound f → IsSound g
+      → Begins ts (spell_file f) rest → Begins ts (spell_file g) other → f ≡ g
+  one_of_tokens f g ts rest other version sound_f sound_g begins_f begins_g =
+      let limits : Limits = record { entries = entries_in f + entries_in g; records = length f.records + length g.records; uses = uses_in f + uses_in g } in
+      let reps = reps_in f.records + reps_in g.records in
+      let counted_f : IsCounted reps limits f = record { locations = omega arith; curve2s = omega arith; curves = omega arith; polygons = omega arith; polygons_on = omega arith; surfaces = omega arith; meshes = omega arith; records = omega arith; uses = omega arith; reps = omega arith } in
+      let counted_g : IsCounted reps limits g = record { locations = omega arith; curve2s = omega arith; curves = omega arith; polygons = omega arith; polygons_on = omega arith; surfaces = omega arith; meshes = omega arith; records = omega arith; uses = omega arith; reps = omega arith } in
+      one_file forms fields names locations curves meshes surfaces tell limits reps f g ts rest other version
+      (fits_from names f sound_f reps limits counted_f) (fits_from names g sound_g reps limits counted_g) begins_f begins_g
+
   one : (bytes : List ℕ) (f g : File) → Spells bytes f → Spells bytes g → f ≡ g
   one bytes f g of_f of_g =
       let ws = of_f.tokens.0 in
       let both : told f.version ws ≡ told g.version of_g.tokens.0 = some_is (sym of_f.tokens.1 ∙ of_g.tokens.1) in
       let version : f.version ≡ g.version = ap (λ (p : ℕ × List Word). p.0) both in
       let words : ws ≡ of_g.tokens.0 = ap (λ (p : ℕ × List Word). p.1) both in
-      let limits : Limits = record { entries = entries_in f + entries_in g; records = length f.records + length g.records; uses = uses_in f + uses_in g } in
-      let reps = reps_in f.records + reps_in g.records in
-      let counted_f : IsCounted reps limits f = record { locations = omega arith; curve2s = omega arith; curves = omega arith; polygons = omega arith; polygons_on = omega arith; surfaces = omega arith; meshes = omega arith; records = omega arith; uses = omega arith; reps = omega arith } in
-      let counted_g : IsCounted reps limits g = record { locations = omega arith; curve2s = omega arith; curves = omega arith; polygons = omega arith; polygons_on = omega arith; surfaces = omega arith; meshes = omega arith; records = omega arith; uses = omega arith; reps = omega arith } in
       let spelled_f = spelled_by ws f of_f.tokens.2 of_f.sound in
       let spelled_g = spelled_by ws g (subst (λ (us : List Word). IsSpelling (texts_of us) g) (sym words) of_g.tokens.2) of_g.sound in
-      one_file forms fields names locations curves meshes surfaces tell limits reps f g (short_front ws) spelled_f.0 spelled_g.0 version
-      (fits_from names f of_f.sound reps limits counted_f) (fits_from names g of_g.sound reps limits counted_g) spelled_f.1 spelled_g.1
+      one_of_tokens f g (short_front ws) spelled_f.0 spelled_g.0 version of_f.sound of_g.sound spelled_f.1 spelled_g.1
 
   pub reading_is_exact : ReadingIsExact
   reading_is_exact = record {
     takes = takes scans forms fields names locations curves meshes surfaces heads;
     again = again scans forms fields names locations curves meshes surfaces heads;
     one = one;
+    one_of_tokens = one_of_tokens;
   }

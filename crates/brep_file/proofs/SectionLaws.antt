@@ -16,7 +16,7 @@ use Rattle.brep_file.proofs.Basics.{both}
 
 -- ---- entries
 
-module _ {A : Type 0} (read : List Token → Read A) (spell : A → List (List ℕ)) (Fits : A → Type 0) (exact : IsExact read spell Fits) where
+module _ (fields : FieldsAreExact) {A : Type 0} (read : List Token → Read A) (spell : A → List (List ℕ)) (Fits : A → Type 0) (exact : IsExact read spell Fits) where
   pub entries_takes : (n : ℕ) (xs : List A) (ts rest : List Token) (ys : List A) → entries_from read xs n ts ≡ Ok (ys, rest)
       → (new : List A) × (ys ≡ xs ++ new) × Begins ts (flat_map spell new) rest × (length new ≡ n) × AllByRecursion Fits new
   entries_takes zero xs ts rest ys e =
@@ -68,7 +68,7 @@ module _ (fields : FieldsAreExact) (word : List ℕ) (most : ℕ) where
     section_takes ts rest xs e =
         let h = bind_ok (heading_at word most ts) (λ n. entries_from read [] n.0 n.1) (xs, rest) e in
         let head = heading_takes ts h.0.1 h.0.0 h.1 in
-        let all = entries_takes read spell Fits exact h.0.0 [] h.0.1 rest xs h.2 in
+        let all = entries_takes fields read spell Fits exact h.0.0 [] h.0.1 rest xs h.2 in
         let whole : Begins ts (section word spell all.0) rest =
         subst (λ (n : ℕ). Begins ts (word ∷ decimal n ∷ flat_map spell all.0) rest) (sym all.3) (fields.joined ts (word ∷ decimal h.0.0 ∷ []) h.0.1 (flat_map spell all.0) rest head.0 all.2) in
         subst (λ (ys : List A). Begins ts (section word spell ys) rest × (IsSoundTable Fits ys × (length ys ≤ most))) (sym all.1)
@@ -77,7 +77,7 @@ module _ (fields : FieldsAreExact) (word : List ℕ) (most : ℕ) where
     section_again : (ts rest : List Token) (xs : List A) → Begins ts (section word spell xs) rest → IsSoundTable Fits xs × (length xs ≤ most) → section_at word most read ts ≡ Ok (xs, rest)
     section_again ts rest xs b is =
         let s = fields.split ts (word ∷ decimal (length xs) ∷ []) (flat_map spell xs) rest b in
-        rw (heading_again ts s.0 (length xs) s.1 is.0.countable is.1, entries_again read spell Fits exact xs [] s.0 rest s.2 is.0.entries) refl
+        rw (heading_again ts s.0 (length xs) s.1 is.0.countable is.1, entries_again fields read spell Fits exact xs [] s.0 rest s.2 is.0.entries) refl
 
     pub section_is_exact : IsExact (section_at word most read) (section word spell) (λ xs. IsSoundTable Fits xs × (length xs ≤ most))
     section_is_exact = record { takes = section_takes; again = section_again }

@@ -12,7 +12,7 @@ use Rattle.brep_tokens.specs.declared.fault.ReadFault.{ReadFault}
 use Rattle.entry_readers.specs.Reading.{Read, fault, more}
 use Rattle.entry_readers.specs.Begins.{Begins, FieldsAreExact}
 use Rattle.orientation.specs.Laws.{SignsAndNamesTell}
-use Rattle.location_table.specs.Laws.{LocationsAreExact}
+use Rattle.location_table.specs.Sections.{SectionsAreExact}
 use Rattle.curve_tables.specs.Laws.{CurvesAreExact}
 use Rattle.surface_tables.specs.Laws.{SurfacesAreExact}
 use Rattle.mesh_tables.specs.Laws.{MeshesAreExact}
@@ -148,7 +148,7 @@ closed_zero f (t ∷ u ∷ ts) e = absurd (no_second (ap tail_of e))
 
 -- ---- the whole text
 
-module _ (scans : ScannerGivesTokens) (forms : FormsAreExact) (fields : FieldsAreExact) (names : SignsAndNamesTell) (locations : LocationsAreExact) (curves : CurvesAreExact) (meshes : MeshesAreExact) (surfaces : SurfacesAreExact) (heads : HeadsAreExact) where
+module _ (scans : ScannerGivesTokens) (forms : FormsAreExact) (fields : FieldsAreExact) (names : SignsAndNamesTell) (locations : SectionsAreExact) (curves : CurvesAreExact) (meshes : MeshesAreExact) (surfaces : SurfacesAreExact) (heads : HeadsAreExact) where
   words_take : (limits : Limits) (size v : ℕ) (ws : List Word) (f : File) → IsVersionRead v → read_words limits size v ws ≡ Ok f → (f.version ≡ v) × IsSpelling (texts_of ws) f × IsSound f × IsWithin limits f
   words_take limits size v ws f known e =
       let whole = finished_ok size ws (from_locations limits (begun v) (short_front ws)) f e in

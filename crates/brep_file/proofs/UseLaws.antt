@@ -2,12 +2,13 @@
 use Rattle.std.proofs.Common.{◌≡◌, ℕ, suc, max, ◌+◌, ◌-◌, ◌<◌, ◌≤◌, ◌^◌, ◌&&◌, nat_le, nat_lt, ◌⊎◌, inl, inr, Bool, true, false, if◌then◌else◌, List, [], ◌∷◌, ◌++◌, length, Option, Some, None, Result, Ok, Err, refl, sym, ap, subst, ◌∙◌, append_assoc, append-nil, arith}
 use Rattle.std.specs.Prelude.{codes, slice_get}
 use Rattle.std.specs.List.{flat_map, AllByRecursion}
-use Rattle.std.specs.Option.{option_map_or}
+use Rattle.std.specs.Option.{option_map, option_map_or}
 use Rattle.std.specs.Fmt.{decimal}
 use Rattle.std.proofs.lemmas.Bool.{ltb-true, lt-ltb, le-leb, leb-true, eqb-true}
 use Rattle.std.proofs.lemmas.List.{length-append}
 use Rattle.std.proofs.lemmas.Slice.Eq.{bytes_eq-Decides}
-use Rattle.brep_tokens.specs.Forms.{number_of}
+use Rattle.brep_tokens.specs.Bytes.{is_sign}
+use Rattle.brep_tokens.specs.Forms.{use_sign_of}
 use Rattle.brep_tokens.specs.Laws.{FormsAreExact}
 use Rattle.brep_tokens.specs.declared.text.Token.{Token}
 use Rattle.brep_tokens.specs.declared.fault.ReadCode.TheVariants as faults
@@ -25,7 +26,7 @@ use Rattle.brep_file.specs.declared.uses.FileUse.{FileUse}
 use Rattle.brep_file.specs.declared.reader.state.Named.{Named}
 use Rattle.brep_file.specs.Seen.{Seen}
 use Rattle.brep_file.specs.Spelling.{spell_use}
-use Rattle.brep_file.specs.RecordReading.{RecordBounds, Gathered, SoFar, signed_number, use_of, if_above, above_at, fitting, named, named_at, gathered, is_star, uses_from, located}
+use Rattle.brep_file.specs.RecordReading.{RecordBounds, Gathered, SoFar, turned, use_of, if_above, above_at, fitting, named, named_at, gathered, is_star, uses_from, located}
 use Rattle.brep_file.proofs.Basics.{and_true, branch_ok, chosen, some_is}
 
 -- ---- signs joined to numbers
@@ -43,12 +44,17 @@ turn_signed b t e =
 abbrev twin : Turn → ℕ → Turn × ℕ
 twin turn number = (turn, number)
 
-signed_some : (o : Option Turn) (n : Option ℕ) (turn : Turn) (number : ℕ) → signed_number o n ≡ Some (turn, number) → (o ≡ Some turn) × (n ≡ Some number)
-signed_some None n turn number e = absurd cc
-signed_some (Some t) None turn number e = absurd cc
-signed_some (Some t) (Some k) turn number e =
+turned_some : (t : Option Turn) (k : ℕ) (turn : Turn) (number : ℕ) → option_map (λ x. twin x k) t ≡ Some (twin turn number) → (t ≡ Some turn) × (k ≡ number)
+turned_some None k turn number e = absurd cc
+turned_some (Some t) k turn number e =
     let pair : twin t k ≡ twin turn number = some_is e in
-    (ap (λ (p : Turn × ℕ). Some p.0) pair, ap (λ (p : Turn × ℕ). Some p.1) pair)
+    (ap (λ (p : Turn × ℕ). Some p.0) pair, ap (λ (p : Turn × ℕ). p.1) pair)
+
+sign_is : (t : Turn) → is_sign (sign_of t) ≡ true
+sign_is Forward = refl
+sign_is Reversed = refl
+sign_is Internal = refl
+sign_is External = refl
 
 -- ---- what is to be shown of uses, given what is known of the records above
 
@@ -113,12 +119,16 @@ either true x r y e = inl (refl, cc)
 either false x r y e = inr (refl, e)
 
 module _ (forms : FormsAreExact) where
+  signed_takes : (text : List ℕ) (turn : Turn) (number : ℕ) (o : Option (ℕ × ℕ)) → use_sign_of text ≡ o → turned o ≡ Some (turn, number)
+      → (text ≡ use_text turn number) × (number < 10 ^ 18)
+  signed_takes text turn number None is e = absurd cc
+  signed_takes text turn number (Some u) is e =
+      let same = turned_some (turn_of u.0) u.1 turn number e in
+      let sign = (forms.use_signs text u.0 u.1).0 is in
+      (sign.spelled ∙ (λ i. turn_signed u.0 turn same.0 i ∷ decimal (same.1 i)), subst (λ (n : ℕ). n < 10 ^ 18) same.1 sign.small)
+
   pub use_takes : (text : List ℕ) (turn : Turn) (number : ℕ) → use_of text ≡ Some (turn, number) → (text ≡ use_text turn number) × (number < 10 ^ 18)
-  use_takes [] turn number e = absurd cc
-  use_takes (b ∷ bs) turn number e =
-      let s = signed_some (turn_of b) (number_of bs) turn number e in
-      let is = (forms.numbers bs number).0 s.1 in
-      (ap (λ (c : ℕ). c ∷ bs) (turn_signed b turn s.0) ∙ ap (λ (d : List ℕ). sign_of turn ∷ d) is.spelled, is.small)
+  use_takes text turn number e = signed_takes text turn number (use_sign_of text) refl e
 
   named_takes : (b : RecordBounds) (seen : List Seen) (parent : Kind) (uses : ℕ) (t : Token) (o : Option (Turn × ℕ)) → use_of t.text ≡ o → (u : Named) → named_at b seen parent uses t o ≡ Ok u → Names b seen parent uses t.text u
   named_takes b seen parent uses t None is u e = absurd cc
@@ -148,7 +158,9 @@ module _ (forms : FormsAreExact) where
 
   module _ (names : SignsAndNamesTell) where
     pub use_again : (turn : Turn) (number : ℕ) → number < 10 ^ 18 → use_of (use_text turn number) ≡ Some (turn, number)
-    use_again turn number small = rw (names.signs turn, (forms.numbers (decimal number) number).1 (record { small = small; spelled = refl })) refl
+    use_again turn number small =
+        ap turned ((forms.use_signs (use_text turn number) (sign_of turn) number).1 (record { sign = sign_is turn; small = small; spelled = refl }))
+        ∙ ap (option_map (λ x. twin x number)) (names.signs turn)
 
     named_again : (b : RecordBounds) (seen : List Seen) (parent : Kind) (uses : ℕ) (t : Token) (u : FileUse) → t.text ≡ use_text u.turn u.number → (fits : FitsUse b.tables.locations b.records parent seen u) → uses < b.uses
         → named_at b seen parent uses t (use_of t.text) ≡ Ok (record { turn = u.turn; number = u.number; child = fits.child })

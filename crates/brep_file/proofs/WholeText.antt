@@ -1,5 +1,5 @@
 -- Reading a whole text from a scanner.
-use Rattle.std.proofs.Common.{◌≡◌, ℕ, true, length, List, Ok, Err, Result, sym, ap, ◌∙◌}
+use Rattle.std.proofs.Common.{◌≡◌, ℕ, true, length, List, Ok, Err, Result, IsErrAnd, sym, ap, subst, ◌∙◌}
 use Rattle.brep_tokens.specs.State.{Scan}
 use Rattle.brep_tokens.specs.Scan.{head_of, words_left}
 use Rattle.brep_tokens.specs.Laws.{ScannerGivesTokens}
@@ -48,3 +48,8 @@ module _ (limits : Limits) (s : Scan) (v : ℕ) where
   pub body_fails : (e : ReadStop) → Fails s (from_locations limits (begun v) (front s)) e → FileGiven (Err e) (read_words limits (length s.fed) v (words_left s))
   body_fails stops.NoMemory is = tt
   body_fails (stops.Fault x) is = body_stop x is
+
+-- what stops a step stops the whole
+pub stopped_with : (r : Result File ReadStop) (e : ReadStop) (read : Result File ReadFault) → IsErrAnd r (λ z. z ≡ e) → FileGiven (Err e) read → FileGiven r read
+stopped_with (Ok f) e read wrong given = absurd wrong
+stopped_with (Err z) e read is given = subst (λ (w : ReadStop). FileGiven (Err w) read) (sym is) given

@@ -13,7 +13,7 @@ use Rattle.surface_tables.specs.Surfaces.{surface_at}
 use Rattle.mesh_tables.specs.Meshes.{polygon_at, polygon_on_at, mesh_at}
 use Rattle.brep_file.specs.declared.file.File.{File}
 use Rattle.brep_file.specs.Sound.{Limits, sizes_of}
-use Rattle.brep_file.specs.SectionReading.{heading_at, section_at, locations_at}
+use Rattle.brep_file.specs.SectionReading.{heading_at, section_at, location_section_at}
 use Rattle.brep_file.specs.RecordReading.{nothing_read, records_from, root_at}
 
 -- a file of which nothing is read but its version
@@ -62,7 +62,7 @@ module _ (limits : Limits) where
   from_curve2s f ts = section_at (codes "Curve2ds") limits.entries curve2_at ts >>= λ x. from_curves (record f { curve2s = x.0 }) x.1
 
   unfoldable pub from_locations : File → List Token → Read File
-  from_locations f ts = locations_at limits.entries ts >>= λ x. from_curve2s (record f { locations = x.0 }) x.1
+  from_locations f ts = location_section_at limits.entries ts >>= λ x. from_curve2s (record f { locations = x.0 }) x.1
 
 -- ---- the tokens of a text: those before the first of more than 128 bytes
 

@@ -10,9 +10,8 @@ use Rattle.brep_tokens.specs.declared.text.Token.{Token}
 use Rattle.lists.specs.Results.{◌>>=◌}
 use Rattle.entry_readers.specs.Reading.{Read, more, fault}
 use Rattle.brep_file.specs.declared.file.File.{File}
-use Rattle.brep_file.specs.FileReading.{closed, from_curve2s, from_root, read_head, short_front, too_long, unfinished}
+use Rattle.brep_file.specs.FileReading.{closed, from_root, read_head, short_front, too_long, unfinished}
 use Rattle.brep_file.specs.Sound.{Limits, file_limits, sizes_of}
-use Rattle.brep_file.specs.SectionReading.{locations_from}
 use Rattle.brep_file.specs.RecordReading.{nothing_read, records_from}
 
 -- The file that reading gives, or its fault; want of memory may come at any time.
@@ -88,10 +87,6 @@ abbrev pub closing : Scan → File → Result File ReadFault
 closing s f = closed f (too_long (words_left s)) (front s)
 
 -- ---- what comes after a count
-
--- so many locations, and what comes after them
-abbrev pub from_placed : File → ℕ → List Token → Read File
-from_placed f n ts = locations_from [] n ts >>= λ x. from_curve2s file_limits (record f { locations = x.0 }) x.1
 
 -- the version is one that is read, and the tables so far are within their limits
 pub record IsPartRead (f : File) : Type 0 where

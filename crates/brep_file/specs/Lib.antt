@@ -8,7 +8,6 @@ pub mod Many
 pub mod RecordReading
 pub mod RecordLeft
 pub mod SectionReading
-pub mod LocationsLeft
 pub mod FileReading
 pub mod Giving
 pub mod Feeding

@@ -3,7 +3,7 @@ use Rattle.std.specs.Prelude.{◌≡◌, ℕ, ◌⊎◌, List, [], ◌∷◌, �
 use Rattle.brep_tokens.specs.Tokens.{Word, tokens_of}
 use Rattle.brep_file.specs.declared.file.File.{File}
 use Rattle.brep_file.specs.Spelling.{spell_file}
-use Rattle.brep_file.specs.Sound.{IsSound, IsSmall}
+use Rattle.brep_file.specs.Sound.{IsSound, IsWithinLimits}
 
 abbrev pub texts_of : List Word → List (List ℕ)
 texts_of ws = map (λ w. w.text) ws
@@ -20,4 +20,4 @@ pub record Spells (bytes : List ℕ) (f : File) : Type 0 where
 -- and the program reads it
 pub record Reads (bytes : List ℕ) (f : File) : Type 0 where
   pub spells : Spells bytes f
-  pub small : IsSmall f
+  pub small : IsWithinLimits f

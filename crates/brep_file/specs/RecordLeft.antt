@@ -1,9 +1,12 @@
 -- What the readers of records have still to read.
 use Rattle.std.specs.Prelude.{◌≡◌, ◌+◌, ◌<◌, ◌≤◌, ◌⊎◌, ℕ, List, length, Option, Some, None, Result, Ok, Err}
 use Rattle.brep_tokens.specs.declared.text.Token.{Token}
+use Rattle.brep_tokens.specs.declared.fault.Progress.{Progress}
 use Rattle.brep_tokens.specs.declared.fault.ReadFault.{ReadFault}
+use Rattle.brep_tokens.specs.declared.fault.ReadStop.{ReadStop}
 use Rattle.lists.specs.Results.{◌>>=◌}
 use Rattle.entry_readers.specs.Reading.{Read, Refusal, fault}
+use Rattle.entry_readers.specs.Takes.{Takes}
 use Rattle.orientation.specs.declared.kind.Kind.{Kind}
 use Rattle.tshape_data.specs.HeadLeft.{head_left, IsWaiting as IsWaitingHead}
 use Rattle.tshape_data.specs.RepReading.{most_reps}
@@ -127,6 +130,16 @@ record_done_at (Some head) before reps r = AreDoneUses before r.uses × HasFewRe
 abbrev pub IsDoneRecord : ℕ → ℕ → RecordReader → Type 0
 IsDoneRecord before reps r = record_done_at r.head before reps r
 
+-- Of what was left, a reader of uses took a token, after these records and in a record of this kind.
+abbrev pub TakesUses : (List Token → Read Gathered) → HeldBounds → HeldSoFar → Kind → Token → UsesReader → Result Progress ReadStop → Type 0
+TakesUses left b s parent t new result =
+    Takes left t (uses_left (bounds_of b) (so_far_of s) parent new) (IsWaitingUses s.uses new) (AreDoneUses s.uses new) result
+
+-- Of what was left, a reader of a record took a token, after these records.
+abbrev pub TakesRecord : (List Token → Read SoFar) → HeldBounds → HeldSoFar → Token → RecordReader → Result Progress ReadStop → Type 0
+TakesRecord left b s t new result =
+    Takes left t (record_left (bounds_of b) (so_far_of s) new) (IsWaitingRecord s.uses s.reps new) (IsDoneRecord s.uses s.reps new) result
+
 -- ---- the records
 
 -- What is left to read of the records.
@@ -167,3 +180,7 @@ root_done_at (root_stages.Whole u) = Unit {0}
 
 abbrev pub IsDoneRoot : RootReader → Type 0
 IsDoneRoot r = root_done_at r.stage
+
+-- Of what was left, the reader of the root use took a token.
+abbrev pub TakesRoot : (List Token → Read FileUse) → Token → RootReader → Result Progress ReadStop → Type 0
+TakesRoot left t new result = Takes left t (root_left new) (IsWaitingRoot new) (IsDoneRoot new) result

@@ -2,7 +2,7 @@
 use Rattle.std.specs.Prelude.{ℕ, suc, max, ◌+◌, ◌-◌, ◌&&◌, Bool, if◌then◌else◌, nat_le, nat_lt, nat_eq, List, [], ◌∷◌, ◌++◌, length, slice_get, Option, Some, None, Result, Ok, Err, codes}
 use Rattle.std.specs.Cmp.Lexicographic.{pointwise}
 use Rattle.std.specs.Option.{option_map}
-use Rattle.brep_tokens.specs.Forms.{number_of}
+use Rattle.brep_tokens.specs.Forms.{use_sign_of}
 use Rattle.brep_tokens.specs.declared.text.Token.{Token}
 use Rattle.brep_tokens.specs.declared.fault.ReadCode.TheVariants as faults
 use Rattle.lists.specs.Results.{◌>>=◌}
@@ -55,14 +55,14 @@ pub record RecordBounds : Type 0 where
   pub records : ℕ
   pub uses : ℕ
 
--- a turn's sign joined to a number
-abbrev pub signed_number : Option Turn → Option ℕ → Option (Turn × ℕ)
-signed_number None n = None
-signed_number (Some turn) n = option_map (λ k. (turn, k)) n
+-- the turn of a sign, with the number that is joined to it
+abbrev pub turned : Option (ℕ × ℕ) → Option (Turn × ℕ)
+turned None = None
+turned (Some u) = option_map (λ turn. (turn, u.1)) (turn_of u.0)
 
+-- the turn and the number that a text joins
 abbrev pub use_of : List ℕ → Option (Turn × ℕ)
-use_of [] = None
-use_of (b ∷ bs) = signed_number (turn_of b) (number_of bs)
+use_of text = turned (use_sign_of text)
 
 -- the number's place among those that were seen: the record after them is next, of n
 abbrev pub if_above : ℕ → List Seen → Token → ℕ → Option Seen → Result Seen Refusal

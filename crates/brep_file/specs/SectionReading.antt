@@ -1,13 +1,12 @@
 -- Reading a section: its word, the count of its entries, and so many entries.
-use Rattle.std.specs.Prelude.{ℕ, if◌then◌else◌, nat_le, List, [], ◌∷◌, ◌++◌, Ok, Err, codes}
+use Rattle.std.specs.Prelude.{ℕ, if◌then◌else◌, nat_le, List, [], ◌∷◌, Ok, Err, codes}
 use Rattle.brep_tokens.specs.declared.text.Token.{Token}
 use Rattle.brep_tokens.specs.declared.fault.ReadCode.TheVariants as faults
 use Rattle.lists.specs.Results.{◌>>=◌}
 use Rattle.entry_readers.specs.Reading.{Read, fault, more, at_token, number_at, word_at}
 use Rattle.entry_readers.specs.Entries.{entries_from}
-use Rattle.location_table.specs.Locations.{location_at}
+use Rattle.location_table.specs.Sections.{locations_at}
 use Rattle.location_table.specs.declared.entry.LocationEntry.{LocationEntry}
-use Rattle.brep_file.specs.Many.{many_from}
 
 -- the number of this token, where it is within the limit
 abbrev pub within : ℕ → Token → ℕ × List Token → Read ℕ
@@ -24,12 +23,6 @@ heading_at word most ts = word_at word ts >>= λ w. count_at most w.1
 abbrev pub section_at : {A : Type 0} → List ℕ → ℕ → (List Token → Read A) → List Token → Read (List A)
 section_at word most read ts = heading_at word most ts >>= λ n. entries_from read [] n.0 n.1
 
--- a location more, which may name those before it
-abbrev pub location_more : List LocationEntry → List Token → Read (List LocationEntry)
-location_more before ts = location_at before ts >>= λ e. Ok (before ++ e.0 ∷ [], e.1)
-
-abbrev pub locations_from : List LocationEntry → ℕ → List Token → Read (List LocationEntry)
-locations_from before n ts = many_from location_more before n ts
-
-abbrev pub locations_at : ℕ → List Token → Read (List LocationEntry)
-locations_at most ts = heading_at (codes "Locations") most ts >>= λ n. locations_from [] n.0 n.1
+-- the section of locations, each of which may name those before it
+abbrev pub location_section_at : ℕ → List Token → Read (List LocationEntry)
+location_section_at most ts = heading_at (codes "Locations") most ts >>= λ n. locations_at n.0 n.1

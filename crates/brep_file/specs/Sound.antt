@@ -101,5 +101,5 @@ abbrev pub file_limits : Limits
 file_limits = record { entries = 4194304; records = 2097152; uses = 16777216 }
 
 -- the counts are within the limits of the program
-abbrev pub IsSmall : File → Type 0
-IsSmall f = IsWithin file_limits f
+abbrev pub IsWithinLimits : File → Type 0
+IsWithinLimits f = IsWithin file_limits f

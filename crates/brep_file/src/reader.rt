@@ -2,7 +2,7 @@
 
 mod file_bytes;
 mod heading;
-mod locations;
+mod part;
 mod pull;
 mod record;
 mod records;

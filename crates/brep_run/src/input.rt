@@ -3,7 +3,7 @@ ghost use Rattle.std.specs.Prelude.{◌≡◌, ◌≤◌, All, IfErr, IfOk, IsTr
 ghost use Rattle.brep_desk.specs.Strays.{KeepsStrays, IsHeldIfTold};
 ghost use Rattle.brep_desk.specs.Transfers.{NothingWritten, NoMoreOpen};
 ghost use Rattle.brep_desk.specs.WritingCalls.{KeepsWritingCalls};
-ghost use Rattle.brep_file.specs.Sound.{IsSmall, IsSound};
+ghost use Rattle.brep_file.specs.Sound.{IsWithinLimits, IsSound};
 ghost use Rattle.brep_run.specs.Inputs.{IsInputStop, IsLinesStop, IsScriptStop};
 ghost use Rattle.brep_run.specs.Rewrite.{HoldsFile, HoldsScript, given_for, most_script_lines};
 ghost use Rattle.brep_run.specs.Script.{removals};
@@ -46,7 +46,7 @@ pub(crate) fn read_input<D: Desk>(
     ensures writing_calls { KeepsWritingCalls D.tells (D.shows desk.old) (D.shows desk.new) }
     ensures read { IfOk result (λ input. IsTrue D.tells.held → HoldsFile (D.shows desk.old) source.now input.file) }
     ensures sound { IfOk result (λ input. IsSound input.file) }
-    ensures small { IfOk result (λ input. IsSmall input.file) }
+    ensures small { IfOk result (λ input. IsWithinLimits input.file) }
     ensures stop { IfErr result (λ stop. IsInputStop D.tells (D.shows desk.old) source.now (D.faults desk.old) (D.faults desk.new) stop) }
     ensures closes { OnOk result (IsTrue D.tells.opened → NoMoreOpen (D.shows desk.old) (D.shows desk.new)) }
     ensures strays { IsHeldIfTold D.tells (D.shows desk.old) source.now → KeepsStrays D.tells (D.shows desk.old) (D.shows desk.new) }
@@ -120,7 +120,7 @@ pub(crate) fn read_script<D: Desk>(
 
 /// The numbers of the records that a script removes from a file, in its order.
 pub(crate) fn removed_from(alloc: Global, lines: &[u8], file: &File) -> Result<Vec<u32>, Outcome>
-    requires small { IsSmall file.now }
+    requires small { IsWithinLimits file.now }
     requires few { length (script_lines lines.now) ≤ most_script_lines }
     ensures ok { IfOk result (λ numbers. given_for file.now lines.now ≡ removals numbers.items) }
     ensures in_range { IfOk result (λ numbers. All (IsNumberOf (length file.now.records)) numbers.items) }

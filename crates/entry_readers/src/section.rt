@@ -1,7 +1,8 @@
 //! A section: so many entries of one kind.
-ghost use Rattle.std.specs.Prelude.{◌≡◌, ◌<◌, List, [], ◌∷◌, ◌++◌, Ok, OnOk};
+ghost use Rattle.std.specs.Prelude.{◌≡◌, ◌<◌, List, [], ◌∷◌, ◌++◌, Ok, Err, OnOk};
 ghost use Rattle.brep_tokens.specs.declared.text.Token.{Token};
 ghost use Rattle.entry_readers.specs.Entries.{entries_from, entries_left};
+ghost use Rattle.entry_readers.specs.Reading.{more};
 ghost use Rattle.entry_readers.specs.Takes.{Takes};
 
 use crate::entry::EntryReader;
@@ -31,6 +32,7 @@ impl<R: EntryReader> Section<R> {
         requires { 0 < due }
         ensures left { (ts : List Token) → entries_left R.read (R.left result.reader) result.entries.items result.due ts ≡ entries_from R.read [] due ts }
         ensures waits { (0 < result.due) × R.waits result.reader }
+        ensures open { entries_left R.read (R.left result.reader) result.entries.items result.due [] ≡ Err more }
     {
         Section {
             entries: Vec::new(alloc),

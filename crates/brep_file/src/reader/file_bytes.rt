@@ -28,10 +28,9 @@ fn version(s: &mut Scanner) -> Result<u8, ReadFault>
     requires start { s.old.headed ≡ false }
     ensures { VersionGiven s.old s.new result }
 {
-    match s.next() {
-        Ok(Next::Version(version)) => Ok(version),
-        Err(f) => Err(f),
-        Ok(Next::Token(_) | Next::NeedMore(_) | Next::End(_)) => unreachable!(),
+    match s.next()? {
+        Next::Version(version) => Ok(version),
+        Next::Token(_) | Next::NeedMore(_) | Next::End(_) => unreachable!(),
     }
 }
 
@@ -40,11 +39,10 @@ fn end(s: &mut Scanner) -> Result<(), ReadFault>
     requires { IsReading s.old }
     ensures { EndGiven (λ f. after_zero f (too_long (words_left s.old)) (front s.old)) result }
 {
-    match s.next() {
-        Ok(Next::End(_)) => Ok(()),
-        Ok(Next::Token(t)) => Err(fault_at(ReadCode::Tail, 0, 0, &t)),
-        Err(f) => Err(f),
-        Ok(Next::Version(_) | Next::NeedMore(_)) => unreachable!(),
+    match s.next()? {
+        Next::End(_) => Ok(()),
+        Next::Token(t) => Err(fault_at(ReadCode::Tail, 0, 0, &t)),
+        Next::Version(_) | Next::NeedMore(_) => unreachable!(),
     }
 }
 
@@ -53,17 +51,16 @@ fn closing_zero(s: &mut Scanner) -> Result<(), ReadFault>
     requires { IsReading s.old }
     ensures { EndGiven (closing s.old) result }
 {
-    match s.next() {
-        Ok(Next::End(_)) => Ok(()),
-        Ok(Next::Token(t)) => {
+    match s.next()? {
+        Next::End(_) => Ok(()),
+        Next::Token(t) => {
             if t.bytes() == b"0".as_slice() {
                 end(s)
             } else {
                 Err(fault_at(ReadCode::Tail, 0, 0, &t))
             }
         }
-        Err(f) => Err(f),
-        Ok(Next::Version(_) | Next::NeedMore(_)) => unreachable!(),
+        Next::Version(_) | Next::NeedMore(_) => unreachable!(),
     }
 }
 
@@ -73,20 +70,9 @@ pub fn read_file(alloc: Global, bytes: Vec<u8>) -> Result<File, ReadStop>
     ensures { FileGiven result (read_text file_limits bytes.items) }
 {
     scanner_gives_tokens();
-    let mut s = match scanner_of(alloc, bytes) {
-        Ok(s) => s,
-        Err(_) => return Err(ReadStop::NoMemory),
-    };
-    let version = match version(&mut s) {
-        Ok(version) => version,
-        Err(f) => return Err(ReadStop::Fault(f)),
-    };
-    let file = match with_locations(alloc, &mut s, begun_file(alloc, version)) {
-        Ok(file) => file,
-        Err(e) => return Err(e),
-    };
-    match closing_zero(&mut s) {
-        Ok(()) => Ok(file),
-        Err(f) => Err(ReadStop::Fault(f)),
-    }
+    let mut s = scanner_of(alloc, bytes)?;
+    let version = version(&mut s)?;
+    let file = with_locations(alloc, &mut s, begun_file(alloc, version))?;
+    closing_zero(&mut s)?;
+    Ok(file)
 }

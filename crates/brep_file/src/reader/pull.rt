@@ -1,38 +1,56 @@
 //! Reads the parts of a file from a scanner, token by token.
-ghost use Rattle.brep_file.specs.Giving.{Fails, Gives, GoesTo, IsReading, TokenGiven, front};
-ghost use Rattle.brep_file.specs.LocationsLeft.{most_entries};
+ghost use Rattle.brep_file.specs.Giving.{Gives, IsReading, TokenGiven};
 ghost use Rattle.brep_file.specs.RecordLeft.{IsVersionRead, bounds_of, so_far_of};
 ghost use Rattle.brep_file.specs.RecordReading.{nothing_read, records_from, root_at};
-ghost use Rattle.brep_file.specs.SectionReading.{heading_at, locations_from, section_at};
+ghost use Rattle.brep_file.specs.SectionReading.{heading_at, location_section_at, section_at};
+ghost use Rattle.brep_file.specs.Sound.{file_limits};
 ghost use Rattle.entry_readers.specs.Entries.{entries_from};
-ghost use Rattle.std.specs.Prelude.{◌≡◌, ◌<◌, ◌≤◌, [], ◌∷◌, ◌++◌, IfOk, OnOk, length};
+ghost use Rattle.entry_readers.specs.Reading.{more};
+ghost use Rattle.location_table.specs.Sections.{locations_at};
+ghost use Rattle.std.specs.Prelude.{◌≡◌, ◌≤◌, [], Err, IfOk, length};
 
 use crate::reader::heading::count_due;
-use crate::reader::locations::LocationsReader;
+use crate::reader::part::PartReader;
 use crate::reader::records::RecordsReader;
 use crate::reader::root::RootReader;
 use crate::reader::state::{RecordBounds, SoFar};
 use crate::uses::FileUse;
 use brep_tokens::{Next, Progress, ReadCode, ReadFault, ReadStop, Scanner, Token};
-use entry_readers::{EntryReader, word_due};
-use location_table::Locations;
-use std::alloc::{AllocError, Global};
+use entry_readers::{EntryReader, Section, word_due};
+use location_table::{Locations, LocationsReader};
+use std::alloc::Global;
 
 /// The next token.
-pub(crate) fn next_token(s: &mut Scanner) -> Result<Token, ReadFault>
+fn next_token(s: &mut Scanner) -> Result<Token, ReadFault>
     requires { IsReading s.old }
     ensures { TokenGiven s.old s.new result }
 {
-    match s.next() {
-        Ok(Next::Token(t)) => Ok(t),
-        Ok(Next::End(size)) => Err(ReadFault {
+    match s.next()? {
+        Next::Token(t) => Ok(t),
+        Next::End(size) => Err(ReadFault {
             code: ReadCode::Truncated,
             offset: size,
             value: 0,
             limit: 0,
         }),
-        Err(f) => Err(f),
-        Ok(Next::Version(_) | Next::NeedMore(_)) => unreachable!(),
+        Next::Version(_) | Next::NeedMore(_) => unreachable!(),
+    }
+}
+
+/// A part, once a reader that has taken none of its tokens yet has taken them all.
+fn part<R: PartReader>(s: &mut Scanner, reader: R) -> Result<R::Part, ReadStop>
+    requires reading { IsReading s.old }
+    requires waits { R.waits reader }
+    requires open { R.left reader [] ≡ Err more }
+    ensures { Gives R.view (R.left reader) s.old s.new result }
+{
+    let mut reader = reader;
+    'tokens: loop {
+        let t = next_token(s)?;
+        match reader.take_token(&t)? {
+            Progress::More => {}
+            Progress::Whole => return Ok(reader.finish()),
+        }
     }
 }
 
@@ -42,63 +60,22 @@ pub(crate) fn heading(s: &mut Scanner, word: &[u8], most: u64) -> Result<u64, Re
     ensures given { Gives (λ n. n) (heading_at word.now most) s.old s.new result }
     ensures within { IfOk result (λ n. n ≤ most) }
 {
-    let t = match next_token(s) {
-        Ok(t) => t,
-        Err(f) => return Err(ReadStop::Fault(f)),
-    };
-    if let Err(f) = word_due(word, &t) {
-        return Err(ReadStop::Fault(f));
-    }
-    let t = match next_token(s) {
-        Ok(t) => t,
-        Err(f) => return Err(ReadStop::Fault(f)),
-    };
-    match count_due(most, &t) {
-        Ok(count) => Ok(count),
-        Err(f) => Err(ReadStop::Fault(f)),
-    }
-}
-
-/// An entry.
-pub(crate) fn entry<R: EntryReader>(alloc: Global, s: &mut Scanner) -> Result<R::Entry, ReadStop>
-    requires { IsReading s.old }
-    ensures { Gives (λ x. x) R.read s.old s.new result }
-{
-    let mut reader = R::begin(alloc);
-    'tokens: loop {
-        let t = match next_token(s) {
-            Ok(t) => t,
-            Err(f) => return Err(ReadStop::Fault(f)),
-        };
-        match reader.take_token(&t) {
-            Err(e) => return Err(e),
-            Ok(Progress::More) => {}
-            Ok(Progress::Whole) => return Ok(reader.finish()),
-        }
-    }
+    let first = next_token(s)?;
+    word_due(word, &first)?;
+    let second = next_token(s)?;
+    Ok(count_due(most, &second)?)
 }
 
 /// So many locations.
-pub(crate) fn locations(alloc: Global, s: &mut Scanner, count: u64) -> Result<Locations, ReadStop>
+fn locations(alloc: Global, s: &mut Scanner, count: u64) -> Result<Locations, ReadStop>
     requires reading { IsReading s.old }
-    requires few { count ≤ most_entries }
-    ensures { Gives (λ x. x) (locations_from [] count) s.old s.new result }
+    requires few { count ≤ file_limits.entries }
+    ensures { Gives (λ x. x) (locations_at count) s.old s.new result }
 {
     if count == 0 {
         return Ok(Locations::new(alloc));
     }
-    let mut reader = LocationsReader::new(alloc, count);
-    'tokens: loop {
-        let t = match next_token(s) {
-            Ok(t) => t,
-            Err(f) => return Err(ReadStop::Fault(f)),
-        };
-        match reader.take(&t) {
-            Err(e) => return Err(e),
-            Ok(Progress::More) => {}
-            Ok(Progress::Whole) => return Ok(reader.done()),
-        }
-    }
+    part(s, LocationsReader::new(alloc, count))
 }
 
 /// So many records.
@@ -114,18 +91,7 @@ pub(crate) fn records(
     if bounds.records == 0 {
         return Ok(SoFar::new(alloc));
     }
-    let mut reader = RecordsReader::new(alloc, bounds);
-    'tokens: loop {
-        let t = match next_token(s) {
-            Ok(t) => t,
-            Err(f) => return Err(ReadStop::Fault(f)),
-        };
-        match reader.take(&t) {
-            Err(e) => return Err(e),
-            Ok(Progress::More) => {}
-            Ok(Progress::Whole) => return Ok(reader.done()),
-        }
-    }
+    part(s, RecordsReader::new(alloc, bounds))
 }
 
 /// The root use.
@@ -133,29 +99,11 @@ pub(crate) fn root(s: &mut Scanner, locations: u32, records: u32) -> Result<File
     requires { IsReading s.old }
     ensures { Gives (λ x. x) (root_at locations records) s.old s.new result }
 {
-    let mut reader = RootReader::new(locations, records);
-    'tokens: loop {
-        let t = match next_token(s) {
-            Ok(t) => t,
-            Err(f) => return Err(ReadStop::Fault(f)),
-        };
-        match reader.take(&t) {
-            Err(e) => return Err(e),
-            Ok(Progress::More) => {}
-            Ok(Progress::Whole) => return Ok(reader.done()),
-        }
-    }
-}
-
-/// Appends an entry.
-fn append<T: Drop>(entries: &mut Vec<T>, entry: T) -> Result<(), AllocError>
-    ensures { OnOk result (entries.new.items ≡ entries.old.items ++ entry ∷ []) }
-{
-    entries.push(entry).map_err(AllocError::from)
+    part(s, RootReader::new(locations, records))
 }
 
 /// So many entries.
-pub(crate) fn entries<R: EntryReader>(
+fn entries<R: EntryReader>(
     alloc: Global,
     s: &mut Scanner,
     count: u64,
@@ -164,17 +112,10 @@ pub(crate) fn entries<R: EntryReader>(
     ensures given { Gives (λ x. x.items) (entries_from R.read [] count) s.old s.new result }
     ensures many { IfOk result (λ x. length x.items ≡ count) }
 {
-    let mut entries = Vec::new(alloc);
-    'entries: for _ in 0..count {
-        match entry::<R>(alloc, s) {
-            Err(e) => return Err(e),
-            Ok(x) => match append(&mut entries, x) {
-                Ok(()) => {}
-                Err(_) => return Err(ReadStop::NoMemory),
-            },
-        }
+    if count == 0 {
+        return Ok(Vec::new(alloc));
     }
-    Ok(entries)
+    part(s, Section::<R>::new(alloc, count))
 }
 
 /// A section of entries.
@@ -184,11 +125,18 @@ pub(crate) fn section<R: EntryReader>(
     word: &[u8],
 ) -> Result<Vec<R::Entry>, ReadStop>
     requires { IsReading s.old }
-    ensures given { Gives (λ x. x.items) (section_at word.now most_entries R.read) s.old s.new result }
-    ensures few { IfOk result (λ x. length x.items ≤ most_entries) }
+    ensures given { Gives (λ x. x.items) (section_at word.now file_limits.entries R.read) s.old s.new result }
+    ensures few { IfOk result (λ x. length x.items ≤ file_limits.entries) }
 {
-    match heading(s, word, 4_194_304) {
-        Err(e) => Err(e),
-        Ok(count) => entries::<R>(alloc, s, count),
-    }
+    let count = heading(s, word, 4_194_304)?;
+    entries::<R>(alloc, s, count)
+}
+
+/// The section of locations.
+pub(crate) fn location_section(alloc: Global, s: &mut Scanner) -> Result<Locations, ReadStop>
+    requires { IsReading s.old }
+    ensures { Gives (λ x. x) (location_section_at file_limits.entries) s.old s.new result }
+{
+    let count = heading(s, b"Locations", 4_194_304)?;
+    locations(alloc, s, count)
 }

@@ -1,9 +1,8 @@
 //! The reader of a record.
-ghost use Rattle.brep_file.specs.RecordLeft.{AreFew, IsDoneRecord, IsVersionRead, IsWaitingRecord, ReadsFew, at_record, bounds_of, gathered_of, most_uses, record_left, record_waits_at, so_far_of};
+ghost use Rattle.brep_file.specs.RecordLeft.{AreFew, IsDoneRecord, IsVersionRead, IsWaitingRecord, ReadsFew, at_record, bounds_of, gathered_of, most_uses, record_left, record_waits_at, so_far_of, TakesRecord};
 ghost use Rattle.brep_file.specs.RecordReading.{RecordBounds as ReadBounds, SoFar as ReadSoFar, record_at, with_record};
 ghost use Rattle.brep_tokens.specs.declared.text.Token.{Token};
 ghost use Rattle.entry_readers.specs.Reading.{more};
-ghost use Rattle.entry_readers.specs.Takes.{Takes};
 ghost use Rattle.std.specs.Prelude.{◌≡◌, ◌+◌, ◌<◌, ◌≤◌, ℕ, List, [], Ok, Err, None, length};
 ghost use Rattle.tshape_data.specs.HeadLeft.{IsWaiting, head_left};
 ghost use Rattle.tshape_data.specs.HeadReading.{head_at};
@@ -71,7 +70,7 @@ impl RecordReader {
         requires own { length so_far.now.seen.items < bounds.records }
         requires version { IsVersionRead bounds.version }
         requires waits { IsWaitingRecord so_far.now.uses so_far.now.reps self.old }
-        ensures { Takes (record_left (bounds_of bounds) (so_far_of so_far.now) self.old) t.now (record_left (bounds_of bounds) (so_far_of so_far.now) self.new) (IsWaitingRecord so_far.now.uses so_far.now.reps self.new) (IsDoneRecord so_far.now.uses so_far.now.reps self.new) result }
+        ensures { TakesRecord (record_left (bounds_of bounds) (so_far_of so_far.now) self.old) bounds so_far.now t.now self.new result }
     {
         match &self.head {
             None => self.take_head(t, bounds, so_far),
@@ -91,7 +90,7 @@ impl RecordReader {
         requires none { self.old.head ≡ None }
         requires version { IsVersionRead bounds.version }
         requires waits { record_waits_at None so_far.now.uses so_far.now.reps self.old }
-        ensures { Takes (at_record None (bounds_of bounds) (so_far_of so_far.now) self.old) t.now (record_left (bounds_of bounds) (so_far_of so_far.now) self.new) (IsWaitingRecord so_far.now.uses so_far.now.reps self.new) (IsDoneRecord so_far.now.uses so_far.now.reps self.new) result }
+        ensures { TakesRecord (at_record None (bounds_of bounds) (so_far_of so_far.now) self.old) bounds so_far.now t.now self.new result }
     {
         match self.reader.take(t) {
             Err(e) => Err(e),

@@ -1,12 +1,12 @@
 //! The reader of so many records.
 ghost use Rattle.brep_file.specs.RecordLeft.{AreWaitingRecords, IsVersionRead, bounds_of, records_left, so_far_of};
-ghost use Rattle.brep_file.specs.RecordReading.{nothing_read, record_at};
+ghost use Rattle.brep_file.specs.RecordReading.{SoFar as ReadSoFar, nothing_read, record_at};
 ghost use Rattle.brep_file.specs.Many.{many_from};
 ghost use Rattle.brep_tokens.specs.declared.text.Token.{Token};
 ghost use Rattle.entry_readers.specs.Reading.{more};
-ghost use Rattle.entry_readers.specs.Takes.{Takes};
-ghost use Rattle.std.specs.Prelude.{◌≡◌, ◌<◌, List, [], Ok, Err};
+ghost use Rattle.std.specs.Prelude.{◌≡◌, ◌<◌, List, [], Err};
 
+use crate::reader::part::PartReader;
 use crate::reader::record::RecordReader;
 use crate::reader::state::{RecordBounds, SoFar};
 use brep_tokens::{Progress, ReadStop, Token};
@@ -39,12 +39,22 @@ impl RecordsReader {
             alloc,
         }
     }
+}
 
-    /// Takes a token.
-    pub(crate) fn take(&mut self, t: &Token) -> Result<Progress, ReadStop>
-        requires { AreWaitingRecords self.old }
-        ensures { Takes (records_left self.old) t.now (records_left self.new) (AreWaitingRecords self.new) (self.new.due ≡ 0) result }
-    {
+impl PartReader for RecordsReader {
+    type Part = SoFar;
+
+    ghost Held = { ReadSoFar };
+
+    ghost view = { so_far_of };
+
+    ghost left = { records_left };
+
+    ghost waits = { AreWaitingRecords };
+
+    ghost whole = { λ r. r.due ≡ 0 };
+
+    fn take_token(&mut self, t: &Token) -> Result<Progress, ReadStop> {
         match self.reader.take(t, self.bounds, &self.so_far) {
             Err(e) => Err(e),
             Ok(Progress::More) => Ok(Progress::More),
@@ -70,11 +80,7 @@ impl RecordsReader {
         }
     }
 
-    /// The records, and what is known of them.
-    pub(crate) fn done(self) -> SoFar
-        requires { self.due ≡ 0 }
-        ensures { (rest : List Token) → records_left self rest ≡ Ok (so_far_of result, rest) }
-    {
+    fn finish(self) -> SoFar {
         self.so_far
     }
 }

@@ -1,12 +1,13 @@
 //! The reader of the root use.
-ghost use Rattle.brep_file.specs.RecordLeft.{IsDoneRoot, IsWaitingRoot, Says, at_root, root_left};
+ghost use Rattle.brep_file.specs.RecordLeft.{IsDoneRoot, IsWaitingRoot, Says, at_root, root_left, TakesRoot};
 ghost use Rattle.brep_file.specs.RecordReading.{root_at, root_named, use_of};
 ghost use Rattle.brep_file.specs.declared.reader.root.Stage.TheVariants as stages;
+ghost use Rattle.brep_file.specs.declared.uses.FileUse.{FileUse};
 ghost use Rattle.brep_tokens.specs.declared.text.Token.{Token};
 ghost use Rattle.entry_readers.specs.Reading.{more};
-ghost use Rattle.entry_readers.specs.Takes.{Takes};
 ghost use Rattle.std.specs.Prelude.{◌≡◌, ◌≤◌, List, [], Ok, Err, IfOk};
 
+use crate::reader::part::PartReader;
 use crate::reader::uses::signed_number;
 use crate::uses::FileUse;
 use brep_tokens::{Progress, ReadCode, ReadFault, ReadStop, Token};
@@ -60,11 +61,44 @@ impl RootReader {
         }
     }
 
-    /// Takes a token.
-    pub(crate) fn take(&mut self, t: &Token) -> Result<Progress, ReadStop>
-        requires { IsWaitingRoot self.old }
-        ensures { Takes (root_left self.old) t.now (root_left self.new) (IsWaitingRoot self.new) (IsDoneRoot self.new) result }
+    fn take_sign(&mut self, t: &Token) -> Result<Progress, ReadStop>
+        ensures { TakesRoot (at_root stages.Sign self.old) t.now self.new result }
     {
+        let (turn, number) = root_due(self.records, t)?;
+        self.stage = Stage::Location {
+            turn,
+            number: number as u32,
+        };
+        Ok(Progress::More)
+    }
+
+    fn take_location(&mut self, t: &Token, turn: Turn, number: u32) -> Result<Progress, ReadStop>
+        ensures { TakesRoot (at_root (stages.Location turn number) self.old) t.now self.new result }
+    {
+        let location = ranged_due(0, u64::from(self.locations), t)? as u32;
+        self.stage = Stage::Whole(FileUse {
+            turn,
+            number,
+            location,
+        });
+        Ok(Progress::Whole)
+    }
+}
+
+impl PartReader for RootReader {
+    type Part = FileUse;
+
+    ghost Held = { FileUse };
+
+    ghost view = { λ root. root };
+
+    ghost left = { root_left };
+
+    ghost waits = { IsWaitingRoot };
+
+    ghost whole = { IsDoneRoot };
+
+    fn take_token(&mut self, t: &Token) -> Result<Progress, ReadStop> {
         match self.stage {
             Stage::Sign => self.take_sign(t),
             Stage::Location { turn, number } => self.take_location(t, turn, number),
@@ -72,42 +106,7 @@ impl RootReader {
         }
     }
 
-    fn take_sign(&mut self, t: &Token) -> Result<Progress, ReadStop>
-        ensures { Takes (at_root stages.Sign self.old) t.now (root_left self.new) (IsWaitingRoot self.new) (IsDoneRoot self.new) result }
-    {
-        match root_due(self.records, t) {
-            Err(f) => Err(ReadStop::Fault(f)),
-            Ok((turn, number)) => {
-                self.stage = Stage::Location {
-                    turn,
-                    number: number as u32,
-                };
-                Ok(Progress::More)
-            }
-        }
-    }
-
-    fn take_location(&mut self, t: &Token, turn: Turn, number: u32) -> Result<Progress, ReadStop>
-        ensures { Takes (at_root (stages.Location turn number) self.old) t.now (root_left self.new) (IsWaitingRoot self.new) (IsDoneRoot self.new) result }
-    {
-        match ranged_due(0, u64::from(self.locations), t) {
-            Err(f) => Err(ReadStop::Fault(f)),
-            Ok(location) => {
-                self.stage = Stage::Whole(FileUse {
-                    turn,
-                    number,
-                    location: location as u32,
-                });
-                Ok(Progress::Whole)
-            }
-        }
-    }
-
-    /// The root use.
-    pub(crate) fn done(self) -> FileUse
-        requires { IsDoneRoot self }
-        ensures { (rest : List Token) → root_left self rest ≡ Ok (result, rest) }
-    {
+    fn finish(self) -> FileUse {
         match self.stage {
             Stage::Whole(root) => root,
             _ => unreachable!(),

@@ -1,12 +1,11 @@
-//! The sections of a file: from each of them on, what is read into the file so far.
+//! The sections of a file, in their order: each is read into the file so far, and then those that follow it.
 ghost use Rattle.brep_file.specs.FileReading.{begun, from_curve2s, from_curves, from_locations, from_meshes, from_polygons, from_polygons_on, from_records, from_root, from_surfaces};
-ghost use Rattle.brep_file.specs.Giving.{Gives, IsPartRead, IsReading, from_counted, from_placed};
+ghost use Rattle.brep_file.specs.Giving.{Gives, IsPartRead, IsReading, from_counted};
 ghost use Rattle.brep_file.specs.Sound.{file_limits, sizes_of};
-ghost use Rattle.brep_file.specs.LocationsLeft.{most_entries};
-ghost use Rattle.std.specs.Prelude.{◌≡◌, ◌≤◌, length};
+ghost use Rattle.std.specs.Prelude.{◌≡◌, length};
 
 use crate::file::File;
-use crate::reader::pull::{heading, locations, records, root, section};
+use crate::reader::pull::{heading, location_section, records, root, section};
 use crate::reader::state::RecordBounds;
 use crate::records::Records;
 use crate::uses::FileUse;
@@ -42,20 +41,115 @@ pub(crate) fn begun_file(alloc: Global, version: u8) -> File
     }
 }
 
-/// The root use.
-fn with_root(s: &mut Scanner, file: File, records: u32) -> Result<File, ReadStop>
+/// Reads the locations and what follows them.
+pub(crate) fn with_locations(alloc: Global, s: &mut Scanner, file: File) -> Result<File, ReadStop>
     requires reading { IsReading s.old }
-    requires count { length file.records ≡ records }
-    ensures { Gives (λ f. f) (from_root file) s.old s.new result }
+    requires part { IsPartRead file }
+    ensures { Gives (λ f. f) (from_locations file_limits file) s.old s.new result }
 {
     let mut file = file;
-    match root(s, file.locations.len(), records) {
-        Err(e) => Err(e),
-        Ok(root) => {
-            file.root = root;
-            Ok(file)
-        }
-    }
+    let locations = location_section(alloc, s)?;
+    file.locations = locations;
+    with_curve2s(alloc, s, file)
+}
+
+/// Reads the 2D curves and what follows them.
+fn with_curve2s(alloc: Global, s: &mut Scanner, file: File) -> Result<File, ReadStop>
+    requires reading { IsReading s.old }
+    requires part { IsPartRead file }
+    ensures { Gives (λ f. f) (from_curve2s file_limits file) s.old s.new result }
+{
+    let mut file = file;
+    let entries = section::<Curve2Reader>(alloc, s, b"Curve2ds")?;
+    file.curve2s = ListOf::from_vec(entries);
+    with_curves(alloc, s, file)
+}
+
+/// Reads the 3D curves and what follows them.
+fn with_curves(alloc: Global, s: &mut Scanner, file: File) -> Result<File, ReadStop>
+    requires reading { IsReading s.old }
+    requires part { IsPartRead file }
+    ensures { Gives (λ f. f) (from_curves file_limits file) s.old s.new result }
+{
+    let mut file = file;
+    let entries = section::<Curve3Reader>(alloc, s, b"Curves")?;
+    file.curves = ListOf::from_vec(entries);
+    with_polygons(alloc, s, file)
+}
+
+/// Reads the polygons in space and what follows them.
+fn with_polygons(alloc: Global, s: &mut Scanner, file: File) -> Result<File, ReadStop>
+    requires reading { IsReading s.old }
+    requires part { IsPartRead file }
+    ensures { Gives (λ f. f) (from_polygons file_limits file) s.old s.new result }
+{
+    let mut file = file;
+    let entries = section::<Polygon3Reader>(alloc, s, b"Polygon3D")?;
+    file.polygons = ListOf::from_vec(entries);
+    with_polygons_on(alloc, s, file)
+}
+
+/// Reads the polygons on meshes and what follows them.
+fn with_polygons_on(alloc: Global, s: &mut Scanner, file: File) -> Result<File, ReadStop>
+    requires reading { IsReading s.old }
+    requires part { IsPartRead file }
+    ensures { Gives (λ f. f) (from_polygons_on file_limits file) s.old s.new result }
+{
+    let mut file = file;
+    let entries = section::<PolygonOnMeshReader>(alloc, s, b"PolygonOnTriangulations")?;
+    file.polygons_on = ListOf::from_vec(entries);
+    with_surfaces(alloc, s, file)
+}
+
+/// Reads the surfaces and what follows them.
+fn with_surfaces(alloc: Global, s: &mut Scanner, file: File) -> Result<File, ReadStop>
+    requires reading { IsReading s.old }
+    requires part { IsPartRead file }
+    ensures { Gives (λ f. f) (from_surfaces file_limits file) s.old s.new result }
+{
+    let mut file = file;
+    let entries = section::<SurfaceReader>(alloc, s, b"Surfaces")?;
+    file.surfaces = Surfaces::from_vec(entries);
+    with_meshes(alloc, s, file)
+}
+
+/// Reads the meshes and what follows them.
+fn with_meshes(alloc: Global, s: &mut Scanner, file: File) -> Result<File, ReadStop>
+    requires reading { IsReading s.old }
+    requires part { IsPartRead file }
+    ensures { Gives (λ f. f) (from_meshes file_limits file) s.old s.new result }
+{
+    let mut file = file;
+    let entries = section::<MeshReader>(alloc, s, b"Triangulations")?;
+    file.meshes = ListOf::from_vec(entries);
+    with_records(alloc, s, file)
+}
+
+/// The records, and the root use.
+fn with_records(alloc: Global, s: &mut Scanner, file: File) -> Result<File, ReadStop>
+    requires reading { IsReading s.old }
+    requires part { IsPartRead file }
+    ensures { Gives (λ f. f) (from_records file_limits file) s.old s.new result }
+{
+    let count = heading(s, b"TShapes", 2_097_152)?;
+    with_counted(alloc, s, file, count as u32)
+}
+
+/// So many records, and the root use.
+fn with_counted(alloc: Global, s: &mut Scanner, file: File, count: u32) -> Result<File, ReadStop>
+    requires reading { IsReading s.old }
+    requires part { IsPartRead file }
+    ensures { Gives (λ f. f) (from_counted file count) s.old s.new result }
+{
+    let mut file = file;
+    let bounds = RecordBounds {
+        tables: sizes(&file),
+        version: file.version,
+        records: count,
+    };
+    let so_far = records(alloc, s, bounds)?;
+    file.records = so_far.records;
+    with_root(s, file, count)
 }
 
 /// How many entries each table has.
@@ -75,165 +169,14 @@ fn sizes(file: &File) -> HeadBounds
     }
 }
 
-/// So many records, and the root use.
-fn with_counted(alloc: Global, s: &mut Scanner, file: File, count: u32) -> Result<File, ReadStop>
+/// The root use.
+fn with_root(s: &mut Scanner, file: File, records: u32) -> Result<File, ReadStop>
     requires reading { IsReading s.old }
-    requires part { IsPartRead file }
-    ensures { Gives (λ f. f) (from_counted file count) s.old s.new result }
+    requires count { length file.records ≡ records }
+    ensures { Gives (λ f. f) (from_root file) s.old s.new result }
 {
     let mut file = file;
-    let bounds = RecordBounds {
-        tables: sizes(&file),
-        version: file.version,
-        records: count,
-    };
-    match records(alloc, s, bounds) {
-        Err(e) => Err(e),
-        Ok(so_far) => {
-            file.records = so_far.records;
-            with_root(s, file, count)
-        }
-    }
-}
-
-/// The records, and the root use.
-fn with_records(alloc: Global, s: &mut Scanner, file: File) -> Result<File, ReadStop>
-    requires reading { IsReading s.old }
-    requires part { IsPartRead file }
-    ensures { Gives (λ f. f) (from_records file_limits file) s.old s.new result }
-{
-    match heading(s, b"TShapes", 2_097_152) {
-        Err(e) => Err(e),
-        Ok(count) => with_counted(alloc, s, file, count as u32),
-    }
-}
-
-/// Reads the meshes and what follows them.
-fn with_meshes(alloc: Global, s: &mut Scanner, file: File) -> Result<File, ReadStop>
-    requires reading { IsReading s.old }
-    requires part { IsPartRead file }
-    ensures { Gives (λ f. f) (from_meshes file_limits file) s.old s.new result }
-{
-    let mut file = file;
-    match section::<MeshReader>(alloc, s, b"Triangulations") {
-        Err(e) => Err(e),
-        Ok(entries) => {
-            file.meshes = ListOf::from_vec(entries);
-            with_records(alloc, s, file)
-        }
-    }
-}
-
-/// Reads the surfaces and what follows them.
-fn with_surfaces(alloc: Global, s: &mut Scanner, file: File) -> Result<File, ReadStop>
-    requires reading { IsReading s.old }
-    requires part { IsPartRead file }
-    ensures { Gives (λ f. f) (from_surfaces file_limits file) s.old s.new result }
-{
-    let mut file = file;
-    match section::<SurfaceReader>(alloc, s, b"Surfaces") {
-        Err(e) => Err(e),
-        Ok(entries) => {
-            file.surfaces = Surfaces::from_vec(entries);
-            with_meshes(alloc, s, file)
-        }
-    }
-}
-
-/// Reads the polygons on meshes and what follows them.
-fn with_polygons_on(alloc: Global, s: &mut Scanner, file: File) -> Result<File, ReadStop>
-    requires reading { IsReading s.old }
-    requires part { IsPartRead file }
-    ensures { Gives (λ f. f) (from_polygons_on file_limits file) s.old s.new result }
-{
-    let mut file = file;
-    match section::<PolygonOnMeshReader>(alloc, s, b"PolygonOnTriangulations") {
-        Err(e) => Err(e),
-        Ok(entries) => {
-            file.polygons_on = ListOf::from_vec(entries);
-            with_surfaces(alloc, s, file)
-        }
-    }
-}
-
-/// Reads the polygons in space and what follows them.
-fn with_polygons(alloc: Global, s: &mut Scanner, file: File) -> Result<File, ReadStop>
-    requires reading { IsReading s.old }
-    requires part { IsPartRead file }
-    ensures { Gives (λ f. f) (from_polygons file_limits file) s.old s.new result }
-{
-    let mut file = file;
-    match section::<Polygon3Reader>(alloc, s, b"Polygon3D") {
-        Err(e) => Err(e),
-        Ok(entries) => {
-            file.polygons = ListOf::from_vec(entries);
-            with_polygons_on(alloc, s, file)
-        }
-    }
-}
-
-/// Reads the 3D curves and what follows them.
-fn with_curves(alloc: Global, s: &mut Scanner, file: File) -> Result<File, ReadStop>
-    requires reading { IsReading s.old }
-    requires part { IsPartRead file }
-    ensures { Gives (λ f. f) (from_curves file_limits file) s.old s.new result }
-{
-    let mut file = file;
-    match section::<Curve3Reader>(alloc, s, b"Curves") {
-        Err(e) => Err(e),
-        Ok(entries) => {
-            file.curves = ListOf::from_vec(entries);
-            with_polygons(alloc, s, file)
-        }
-    }
-}
-
-/// Reads the 2D curves and what follows them.
-fn with_curve2s(alloc: Global, s: &mut Scanner, file: File) -> Result<File, ReadStop>
-    requires reading { IsReading s.old }
-    requires part { IsPartRead file }
-    ensures { Gives (λ f. f) (from_curve2s file_limits file) s.old s.new result }
-{
-    let mut file = file;
-    match section::<Curve2Reader>(alloc, s, b"Curve2ds") {
-        Err(e) => Err(e),
-        Ok(entries) => {
-            file.curve2s = ListOf::from_vec(entries);
-            with_curves(alloc, s, file)
-        }
-    }
-}
-
-/// So many locations, and what follows them.
-fn with_so_many_locations(
-    alloc: Global,
-    s: &mut Scanner,
-    file: File,
-    count: u64,
-) -> Result<File, ReadStop>
-    requires reading { IsReading s.old }
-    requires part { IsPartRead file }
-    requires few { count ≤ most_entries }
-    ensures { Gives (λ f. f) (from_placed file count) s.old s.new result }
-{
-    let mut file = file;
-    match locations(alloc, s, count) {
-        Err(e) => Err(e),
-        Ok(locations) => {
-            file.locations = locations;
-            with_curve2s(alloc, s, file)
-        }
-    }
-}
-
-/// Reads the locations and what follows them.
-pub(crate) fn with_locations(alloc: Global, s: &mut Scanner, file: File) -> Result<File, ReadStop>
-    requires reading { IsReading s.old }
-    requires part { IsPartRead file }
-    ensures { Gives (λ f. f) (from_locations file_limits file) s.old s.new result }
-{
-    match heading(s, b"Locations", 4_194_304) {
-        Err(e) => Err(e),
-        Ok(count) => with_so_many_locations(alloc, s, file, count),
-    }
+    let root = root(s, file.locations.len(), records)?;
+    file.root = root;
+    Ok(file)
 }

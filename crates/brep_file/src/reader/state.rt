@@ -88,13 +88,9 @@ impl Gathered {
             number: named.number,
             location,
         };
-        match self.uses.push(item) {
-            Ok(()) => {
-                self.depth = self.depth.max(named.child.depth());
-                Ok(())
-            }
-            Err(e) => Err(e),
-        }
+        self.uses.push(item)?;
+        self.depth = self.depth.max(named.child.depth());
+        Ok(())
     }
 }
 
@@ -147,14 +143,8 @@ impl SoFar {
             head,
             uses: gathered.uses,
         };
-        match self.records.push(record) {
-            Ok(()) => {}
-            Err(e) => return Err(e),
-        }
-        match self.seen.push(seen) {
-            Ok(_) => {}
-            Err(_) => return Err(AllocError),
-        }
+        self.records.push(record)?;
+        self.seen.push(seen)?;
         self.uses += uses;
         self.reps += reps;
         Ok(())

@@ -1,16 +1,15 @@
 //! The reader of a record's uses.
-ghost use Rattle.brep_file.specs.RecordLeft.{AreDoneUses, AreFew, HasRoom, IsWaitingUses, Says, at_uses, bounds_of, gathered_of, most_uses, so_far_of, uses_left};
+ghost use Rattle.brep_file.specs.RecordLeft.{AreFew, HasRoom, IsWaitingUses, Says, at_uses, bounds_of, most_uses, so_far_of, uses_left, TakesUses};
 ghost use Rattle.brep_file.specs.RecordReading.{RecordBounds as ReadBounds, SoFar as ReadSoFar, above_at, fitting, is_star, named, named_at, none_gathered, use_of, uses_from};
 ghost use Rattle.brep_file.specs.declared.reader.uses.Stage.TheVariants as stages;
 ghost use Rattle.brep_tokens.specs.declared.text.Token.{Token};
 ghost use Rattle.entry_readers.specs.Reading.{more};
-ghost use Rattle.entry_readers.specs.Takes.{Takes};
 ghost use Rattle.orientation.specs.Kinds.{rank_of};
 ghost use Rattle.orientation.specs.declared.kind.Kind.{Kind};
 ghost use Rattle.std.specs.Prelude.{◌≡◌, ◌+◌, ◌<◌, ◌≤◌, ℕ, List, [], Ok, Err, IfOk, length};
 
 use crate::reader::state::{Gathered, MOST_USES, Named, RecordBounds, Seen, SoFar};
-use brep_tokens::{Progress, ReadCode, ReadFault, ReadStop, Token, number};
+use brep_tokens::{Progress, ReadCode, ReadFault, ReadStop, Token, use_sign};
 use entry_readers::{fault_at, ranged_due};
 use orientation::{Kind, Turn, below, of_sign};
 use std::alloc::Global;
@@ -19,16 +18,9 @@ use std::alloc::Global;
 pub(crate) fn signed_number(text: &[u8]) -> Option<(Turn, u64)>
     ensures { result ≡ use_of text.now }
 {
-    match text {
-        [] => None,
-        [b, rest @ ..] => match of_sign(*b) {
-            None => None,
-            Some(turn) => match number(rest) {
-                None => None,
-                Some(n) => Some((turn, n)),
-            },
-        },
-    }
+    let (sign, number) = use_sign(text)?;
+    let turn = of_sign(sign)?;
+    Some((turn, number))
 }
 
 fn star(text: &[u8]) -> bool
@@ -158,7 +150,7 @@ impl UsesReader {
     ) -> Result<Progress, ReadStop>
         requires own { length so_far.now.seen.items < bounds.records }
         requires waits { IsWaitingUses so_far.now.uses self.old }
-        ensures { Takes (uses_left (bounds_of bounds) (so_far_of so_far.now) parent self.old) t.now (uses_left (bounds_of bounds) (so_far_of so_far.now) parent self.new) (IsWaitingUses so_far.now.uses self.new) (AreDoneUses so_far.now.uses self.new) result }
+        ensures { TakesUses (uses_left (bounds_of bounds) (so_far_of so_far.now) parent self.old) bounds so_far.now parent t.now self.new result }
     {
         match self.stage {
             Stage::Sign => self.take_sign(t, bounds, so_far, parent),
@@ -176,20 +168,16 @@ impl UsesReader {
     ) -> Result<Progress, ReadStop>
         requires own { length so_far.now.seen.items < bounds.records }
         requires few { AreFew so_far.now.uses self.old.gathered }
-        ensures { Takes (at_uses stages.Sign (bounds_of bounds) (so_far_of so_far.now) parent self.old.gathered) t.now (uses_left (bounds_of bounds) (so_far_of so_far.now) parent self.new) (IsWaitingUses so_far.now.uses self.new) (AreDoneUses so_far.now.uses self.new) result }
+        ensures { TakesUses (at_uses stages.Sign (bounds_of bounds) (so_far_of so_far.now) parent self.old.gathered) bounds so_far.now parent t.now self.new result }
     {
         if star(t.bytes()) {
             self.stage = Stage::Whole;
             return Ok(Progress::Whole);
         }
         let uses = so_far.uses + self.gathered.uses.len() as u32;
-        match named_due(bounds, &so_far.seen, parent, uses, t) {
-            Err(f) => Err(ReadStop::Fault(f)),
-            Ok(named) => {
-                self.stage = Stage::Location(named);
-                Ok(Progress::More)
-            }
-        }
+        let named = named_due(bounds, &so_far.seen, parent, uses, t)?;
+        self.stage = Stage::Location(named);
+        Ok(Progress::More)
     }
 
     fn take_location(
@@ -201,19 +189,12 @@ impl UsesReader {
         named: Named,
     ) -> Result<Progress, ReadStop>
         requires { HasRoom so_far.now.uses self.old.gathered named }
-        ensures { Takes (at_uses (stages.Location named) (bounds_of bounds) (so_far_of so_far.now) parent self.old.gathered) t.now (uses_left (bounds_of bounds) (so_far_of so_far.now) parent self.new) (IsWaitingUses so_far.now.uses self.new) (AreDoneUses so_far.now.uses self.new) result }
+        ensures { TakesUses (at_uses (stages.Location named) (bounds_of bounds) (so_far_of so_far.now) parent self.old.gathered) bounds so_far.now parent t.now self.new result }
     {
-        let location = match ranged_due(0, u64::from(bounds.tables.locations), t) {
-            Err(f) => return Err(ReadStop::Fault(f)),
-            Ok(location) => location as u32,
-        };
-        match self.gathered.push(named, location) {
-            Err(_) => Err(ReadStop::NoMemory),
-            Ok(()) => {
-                self.stage = Stage::Sign;
-                Ok(Progress::More)
-            }
-        }
+        let location = ranged_due(0, u64::from(bounds.tables.locations), t)? as u32;
+        self.gathered.push(named, location)?;
+        self.stage = Stage::Sign;
+        Ok(Progress::More)
     }
 
     /// The uses.

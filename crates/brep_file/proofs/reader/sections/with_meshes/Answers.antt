@@ -1,17 +1,20 @@
 use Rattle.std.specs.Prelude.{codes}
 use Rattle.mesh_tables.specs.Meshes.{mesh_at}
 use Rattle.brep_file.specs.Sound.{file_limits}
+use Rattle.brep_file.specs.declared.file.File.{File}
 use Rattle.brep_file.specs.FileReading.{from_meshes, from_records}
 use Rattle.brep_file.specs.SectionReading.{section_at}
-use Rattle.brep_file.proofs.Pulling.{fails_then, then_gives}
+use Rattle.brep_file.proofs.Pulling.{fails_then, stops_with, then_gives}
 use Rattle.brep_file.proofs.reader.sections.with_meshes.Goals as goal
 
-pub returns-in-Err : goal.returns-in-Err
+pub returns-in_err-entries : goal.returns-in_err-entries
 unfolding from_meshes
-returns-in-Err c = fails_then c.args.s.now _ (λ x. from_records file_limits (record c.args.file { meshes = x.0 }) x.1) c.in-Err.e c.in-Err.ensures.given
+returns-in_err-entries c =
+    stops_with (λ (f : File). f) (from_meshes file_limits c.args.file) c.args.s.now c.section.new.s c.from_residual.result c.in_err-entries.field-0.0 c.from_residual.ensures.1
+    (fails_then c.args.s.now _ (λ x. from_records file_limits (record c.args.file { meshes = x.0 }) x.1) c.in_err-entries.field-0.0 c.in_err-entries.ensures.given)
 
-pub returns-in-Ok : goal.returns-in-Ok
+pub returns : goal.returns
 unfolding from_meshes
-returns-in-Ok c =
-    then_gives (section_at (codes "Triangulations") file_limits.entries mesh_at) (λ x. from_records file_limits (record c.args.file { meshes = x.0 }) x.1) c.args.s.now c.section.new.s c.with_records.new.s c.in-Ok.entries.items c.with_records.result c.in-Ok.ensures.given.0 c.in-Ok.ensures.given.1
+returns c =
+    then_gives (section_at (codes "Triangulations") file_limits.entries mesh_at) (λ x. from_records file_limits (record c.args.file { meshes = x.0 }) x.1) c.args.s.now c.section.new.s c.with_records.new.s c.in_ok-entries.entries.items c.with_records.result c.in_ok-entries.ensures.given.0 c.in_ok-entries.ensures.given.1
     (rw (← c.from_vec.ensures) c.with_records.ensures)

@@ -6,7 +6,7 @@ use Rattle.brep_file.specs.Many.{many_from}
 use Rattle.brep_file.specs.RecordLeft.{AreFew, HasFewReps, bounds_of, gathered_of, most_uses, record_left, so_far_of}
 use Rattle.brep_file.specs.RecordReading.{record_at, with_record}
 use Rattle.brep_file.proofs.Steps.{fresh, fresh_open, moved}
-use Rattle.brep_file.proofs.reader.records.RecordsReader.take.Goals as goal
+use Rattle.brep_file.proofs.reader.records.RecordsReaderPartReader.take_token.Goals as goal
 
 pub new-requires-clause-few : goal.new-requires-clause-few
 new-requires-clause-few c =
