@@ -48,26 +48,26 @@ record IsMarked (count : ℕ) (nodes : List ℕ) (ts rest : List Token) (p : Pol
   first : IsDecimal deflection
   each : AllByRecursion IsDecimal others
 
--- the number of nodes, the nodes and what follows them are the whole
-whole : (count : ℕ) (nodes : List ℕ) (ts mid last rest : List Token) (p : PolygonOnMesh) → Begins ts (decimal count ∷ []) mid → IsSmall count → Begins mid (spell_numbers nodes) last → AreRanged 0 greatest count nodes
-    → IsMarked count nodes last rest p → Begins ts (spell_polygon_on p) rest × IsSoundPolygonOn p
-whole count nodes ts mid last rest p one small two ranged is =
-    let n : length p.nodes ≡ count = rw is.same_nodes ranged.0 in
-    let marked = codes "p" ∷ is.deflection ∷ flag_text p.params ∷ is.others in
-    let begins : Begins ts (decimal count ∷ (spell_numbers nodes ++ marked)) rest =
-    fields.joined ts (decimal count ∷ []) mid (spell_numbers nodes ++ marked) rest one (fields.joined mid (spell_numbers nodes) last marked rest two is.begins) in
-    let spelled : spell_polygon_on p ≡ decimal count ∷ (spell_numbers nodes ++ marked) = rw (n, is.same_nodes, is.same_texts) refl in
-    let nodes_small = all_map (IsRanged 0 greatest) IsSmall (λ m in_range. in_range.small) nodes ranged.1 in (
-      subst (λ (texts : List (List ℕ)). Begins ts texts rest) (sym spelled) begins,
-      record {
-        shape = rw (n, is.same_texts) (omega (arith, is.shape));
-        count = rw n small;
-        nodes = rw is.same_nodes nodes_small;
-        texts = rw is.same_texts (is.first, is.each);
-      },
-    )
-
 module _ (fields : FieldsAreExact) where
+  -- the number of nodes, the nodes and what follows them are the whole
+  whole : (count : ℕ) (nodes : List ℕ) (ts mid last rest : List Token) (p : PolygonOnMesh) → Begins ts (decimal count ∷ []) mid → IsSmall count → Begins mid (spell_numbers nodes) last → AreRanged 0 greatest count nodes
+      → IsMarked count nodes last rest p → Begins ts (spell_polygon_on p) rest × IsSoundPolygonOn p
+  whole count nodes ts mid last rest p one small two ranged is =
+      let n : length p.nodes ≡ count = rw is.same_nodes ranged.0 in
+      let marked = codes "p" ∷ is.deflection ∷ flag_text p.params ∷ is.others in
+      let begins : Begins ts (decimal count ∷ (spell_numbers nodes ++ marked)) rest =
+      fields.joined ts (decimal count ∷ []) mid (spell_numbers nodes ++ marked) rest one (fields.joined mid (spell_numbers nodes) last marked rest two is.begins) in
+      let spelled : spell_polygon_on p ≡ decimal count ∷ (spell_numbers nodes ++ marked) = rw (n, is.same_nodes, is.same_texts) refl in
+      let nodes_small = all_map (IsRanged 0 greatest) IsSmall (λ m in_range. in_range.small) nodes ranged.1 in (
+        subst (λ (texts : List (List ℕ)). Begins ts texts rest) (sym spelled) begins,
+        record {
+          shape = rw (n, is.same_texts) (omega (arith, is.shape));
+          count = rw n small;
+          nodes = rw is.same_nodes nodes_small;
+          texts = rw is.same_texts (is.first, is.each);
+        },
+      )
+
   marked_takes : (count : ℕ) (nodes : List ℕ) (ts rest : List Token) (p : PolygonOnMesh) → word_p_at count nodes ts ≡ Ok (p, rest) → IsMarked count nodes ts rest p
   marked_takes count nodes ts rest p e =
       let w = bind_ok (word_at (codes "p") ts) (λ word. decimal_at word.1 >>= λ deflection. params_at count nodes (deflection.0 ∷ []) deflection.1) (p, rest) e in
