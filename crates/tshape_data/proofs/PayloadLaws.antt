@@ -57,7 +57,7 @@ module _ (forms : FormsAreExact) (fields : FieldsAreExact) (b : HeadBounds) wher
       let r = bind_ok (points_at b (room_of b) x.0.1) (λ points. done (vertex_of x.0.0 points.0, points.1)) (p, rest) x.2 in
       let same = ok_is (vertex_of x.0.0 r.0.0, r.0.1) (p, rest) r.2 in
       let one = (fields.decimals 4).takes ts x.0.1 x.0.0 x.1 in
-      let reps = reps_takes param_at (point_rep_at b) point_rep_texts vertex_end (IsSoundPoint (sizes b)) (points_exact forms fields b) (room_of b) [] x.0.1 r.0.1 r.0.0 r.1 in
+      let reps = reps_takes param_at (point_rep_at b) point_rep_texts vertex_end (IsSoundPoint (sizes b)) fields (points_exact forms fields b) (room_of b) [] x.0.1 r.0.1 r.0.0 r.1 in
       let begins = fields.joined ts x.0.0 x.0.1 (flat_map point_rep_texts reps.new ++ vertex_end) r.0.1 one.0 reps.begins in
       let whole : IsPayload version Ve ts r.0.1 (vertex_of x.0.0 reps.new) = record {
         begins = subst (λ (z : List (List ℕ)). Begins ts z r.0.1) (sym (vertex_spelled version (record { texts = x.0.0; points = reps.new }))) begins;
@@ -72,7 +72,7 @@ module _ (forms : FormsAreExact) (fields : FieldsAreExact) (b : HeadBounds) wher
       let begins = subst (λ (z : List (List ℕ)). Begins ts z rest) (vertex_spelled version d) is.begins in
       let s = fields.split ts d.texts (flat_map point_rep_texts d.points ++ vertex_end) rest begins in
       let reps : points_at b (room_of b) s.0 ≡ Ok (d.points, rest) =
-      reps_again param_at (point_rep_at b) point_rep_texts vertex_end (IsSoundPoint (sizes b)) (points_exact forms fields b) (room_of b) [] d.points s.0 rest s.2 is.sound.points is.few in
+      reps_again param_at (point_rep_at b) point_rep_texts vertex_end (IsSoundPoint (sizes b)) fields (points_exact forms fields b) (room_of b) [] d.points s.0 rest s.2 is.sound.points is.few in
       rw ((fields.decimals 4).again ts s.0 d.texts s.1 is.sound.decimals, reps) refl
 
   -- ---- an edge
@@ -100,7 +100,7 @@ module _ (forms : FormsAreExact) (fields : FieldsAreExact) (b : HeadBounds) wher
       let r = bind_ok (edge_reps_at b version (room_of b) f3.0.1) (λ reps. done (edge_of x.0.0 f1.0.0 f2.0.0 f3.0.0 reps.0, reps.1)) (p, rest) f3.2 in
       let same = ok_is (edge_of x.0.0 f1.0.0 f2.0.0 f3.0.0 r.0.0, r.0.1) (p, rest) r.2 in
       let one = (fields.decimals 1).takes ts x.0.1 x.0.0 x.1 in
-      let reps = reps_takes edge_form_at (edge_rep_at b version) (edge_rep_texts version) edge_end (IsSoundEdgeRep (sizes b) version) (edge_reps_exact forms fields b version) (room_of b) [] f3.0.1 r.0.1 r.0.0 r.1 in
+      let reps = reps_takes edge_form_at (edge_rep_at b version) (edge_rep_texts version) edge_end (IsSoundEdgeRep (sizes b) version) fields (edge_reps_exact forms fields b version) (room_of b) [] f3.0.1 r.0.1 r.0.0 r.1 in
       let after = edge_reps_texts version reps.new in
       let begins = fields.joined ts x.0.0 x.0.1 (flag_text f1.0.0 ∷ flag_text f2.0.0 ∷ flag_text f3.0.0 ∷ after) r.0.1 one.0
       (fields.joined x.0.1 (flag_text f1.0.0 ∷ []) f1.0.1 (flag_text f2.0.0 ∷ flag_text f3.0.0 ∷ after) r.0.1 (fields.flag.takes x.0.1 f1.0.1 f1.0.0 f1.1).0
@@ -124,7 +124,7 @@ module _ (forms : FormsAreExact) (fields : FieldsAreExact) (b : HeadBounds) wher
       let f2 = fields.split f1.0 (flag_text d.same_range ∷ []) (flag_text d.degenerated ∷ after) rest f1.2 in
       let f3 = fields.split f2.0 (flag_text d.degenerated ∷ []) after rest f2.2 in
       let reps : edge_reps_at b version (room_of b) f3.0 ≡ Ok (d.reps, rest) =
-      reps_again edge_form_at (edge_rep_at b version) (edge_rep_texts version) edge_end (IsSoundEdgeRep (sizes b) version) (edge_reps_exact forms fields b version) (room_of b) [] d.reps f3.0 rest f3.2 is.sound.reps is.few in
+      reps_again edge_form_at (edge_rep_at b version) (edge_rep_texts version) edge_end (IsSoundEdgeRep (sizes b) version) fields (edge_reps_exact forms fields b version) (room_of b) [] d.reps f3.0 rest f3.2 is.sound.reps is.few in
       rw (
         (fields.decimals 1).again ts s.0 d.tolerance s.1 is.sound.decimals,
         fields.flag.again s.0 f1.0 d.same_parameter f1.1 tt,

@@ -3,7 +3,7 @@ use Rattle.std.proofs.Common.{◌≡◌, ℕ, zero, suc, ◌≤◌, List, [], �
 use Rattle.std.specs.List.{AllByRecursion, flat_map}
 use Rattle.std.specs.Option.{option_map_or}
 use Rattle.brep_tokens.specs.declared.text.Token.{Token}
-use Rattle.entry_readers.specs.Begins.{Begins}
+use Rattle.entry_readers.specs.Begins.{Begins, FieldsAreExact}
 use Rattle.lists.specs.Results.{◌>>=◌}
 use Rattle.entry_readers.specs.Reading.{Read}
 use Rattle.lists.proofs.Results.{bind_ok, ok_is}
@@ -26,7 +26,7 @@ module _ {F A : Type 0} (form_at : ℕ → List Token → Read (Option F)) (rep_
     pub sound : AllByRecursion Sound new
     pub few : length new ≤ room
 
-  module _ (one : OneIsExact) where
+  module _ (fields : FieldsAreExact) (one : OneIsExact) where
     abbrev done : List A × List Token → Read (List A)
     done x = Ok x
 

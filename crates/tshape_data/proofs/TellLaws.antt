@@ -57,7 +57,7 @@ module _ (forms : FormsAreExact) (fields : FieldsAreExact) (tell : SignsAndNames
       let begins = subst (λ (z : List (List ℕ)). Begins ts z rest) (vertex_spelled version d) spelled in
       let s = fields.split ts d.texts (flat_map point_rep_texts d.points ++ vertex_end) rest begins in
       let reps : points_at b room s.0 ≡ Ok (d.points, rest) =
-      reps_again param_at (point_rep_at b) point_rep_texts vertex_end (IsSoundPoint (sizes b)) (points_exact forms fields b) room [] d.points s.0 rest s.2 sound.points few in
+      reps_again param_at (point_rep_at b) point_rep_texts vertex_end (IsSoundPoint (sizes b)) fields (points_exact forms fields b) room [] d.points s.0 rest s.2 sound.points few in
       rw ((fields.decimals 4).again ts s.0 d.texts s.1 sound.decimals, reps) refl
 
   abbrev edge_within : List Token → Read Payload
@@ -75,7 +75,7 @@ module _ (forms : FormsAreExact) (fields : FieldsAreExact) (tell : SignsAndNames
       let f2 = fields.split f1.0 (flag_text d.same_range ∷ []) (flag_text d.degenerated ∷ after) rest f1.2 in
       let f3 = fields.split f2.0 (flag_text d.degenerated ∷ []) after rest f2.2 in
       let reps : edge_reps_at b version room f3.0 ≡ Ok (d.reps, rest) =
-      reps_again edge_form_at (edge_rep_at b version) (edge_rep_texts version) edge_end (IsSoundEdgeRep (sizes b) version) (edge_reps_exact forms fields b version) room [] d.reps f3.0 rest f3.2 sound.reps few in
+      reps_again edge_form_at (edge_rep_at b version) (edge_rep_texts version) edge_end (IsSoundEdgeRep (sizes b) version) fields (edge_reps_exact forms fields b version) room [] d.reps f3.0 rest f3.2 sound.reps few in
       rw (
         (fields.decimals 1).again ts s.0 d.tolerance s.1 sound.decimals,
         fields.flag.again s.0 f1.0 d.same_parameter f1.1 tt,
