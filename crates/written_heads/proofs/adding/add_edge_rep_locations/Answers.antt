@@ -36,5 +36,5 @@ pub returns-in_ok-add-in-Joint : goal.returns-in_ok-add-in-Joint
 returns-in_ok-add-in-Joint c =
     on_ok c.add-in-Joint-2.result
     (λ m. subst (λ l. Adds l c.args.locations.now c.add-in-Joint-2.new.self) (sym (ap edge_locations c.in-Joint.is))
-    (c.in-Joint-added_parts_join.ensures.joined (c.in-Joint.first_location ∷ []) (c.in-Joint.second_location ∷ []) c.args.locations.now c.add-in-Joint.new.self c.add-in-Joint-2.new.self c.in_ok-add-in-Joint.ensures m))
+    (c.added_parts_join.ensures.joined (c.in-Joint.first_location ∷ []) (c.in-Joint.second_location ∷ []) c.args.locations.now c.add-in-Joint.new.self c.add-in-Joint-2.new.self c.in_ok-add-in-Joint.ensures m))
     c.add-in-Joint-2.ensures
