@@ -34,17 +34,15 @@ fn load_vertex(pool: &mut Pool, origin: u32) -> Result<NodeId, Fail>
 }
 
 /// Loads a compound over one use, of an origin that isn't loaded.
-fn load_over(pool: &mut Pool, origin: u32, id: NodeId) -> Result<PoolFault, Fail>
+fn load_over(pool: &mut Pool, origin: u32, id: NodeId) -> Result<Result<NodeId, PoolFault>, Fail>
     requires { id.0 < length pool.old }
-    ensures { length pool.old ≤ length pool.new }
+    ensures held { IfOk result (λ made. IfOk made (λ id. id.0 < length pool.new)) }
+    ensures grows { length pool.old ≤ length pool.new }
 {
     if origin == 0 || pool.named(origin).is_some() {
         return Err(Fail::from("loaded"));
     }
-    match pool.load(Kind::Co, origin, &[use_of(id)]) {
-        Ok(_) => Err(Fail::from("not refused")),
-        Err(fault) => Ok(fault),
-    }
+    Ok(pool.load(Kind::Co, origin, &[use_of(id)]))
 }
 
 /// Wraps two uses.
@@ -78,6 +76,20 @@ fn rebuilt<L: Ledger>(
     Ok(made)
 }
 
+/// Rebuilds under a step counter of its own.
+fn rebuilt_once(pool: &mut Pool, id: NodeId, uses: &[UseOf]) -> Result<NodeId, Fail>
+    requires id { id.0 < length pool.old }
+    requires held { AllHeld pool.old uses.now }
+    requires below { AllBelow pool.old (kind_at pool.old id.0) uses.now }
+    ensures held { IfOk result (λ made. made.0 < length pool.new) }
+    ensures grows { length pool.old ≤ length pool.new }
+{
+    let made = rebuilt::<Brand>(pool, id, uses, Blank::new(1))
+        .ok()
+        .ok_or("rebuild")?;
+    Ok(made)
+}
+
 #[test]
 fn refuses_what_is_too_deep(rt: HostRuntime) -> Result<(), Fail> {
     let mut pool = Pool::new(rt.alloc())?;
@@ -91,7 +103,11 @@ fn refuses_what_is_too_deep(rt: HostRuntime) -> Result<(), Fail> {
         &pool.wrap(&[use_of(id)]),
         &Err(PoolFault::TooDeep(513)),
     );
-    same(&rt, &load_over(&mut pool, 7, id)?, &PoolFault::TooDeep(513));
+    same(
+        &rt,
+        &load_over(&mut pool, 7, id)?,
+        &Err(PoolFault::TooDeep(513)),
+    );
     same(&rt, &pool.named(7), &None);
     same(&rt, &pool.mark(), &512);
     Ok(())
@@ -135,11 +151,35 @@ fn rebuilds_to_a_held_node(rt: HostRuntime) -> Result<(), Fail> {
     let leaf = pool.wrap(&[]).ok().ok_or("leaf")?;
     let over = pool.wrap(&[use_of(leaf), use_of(leaf)]).ok().ok_or("over")?;
     let none: [UseOf; 0] = [];
-    let emptied = rebuilt::<Brand>(&mut pool, over, &none, Blank::new(1))
-        .ok()
-        .ok_or("rebuild")?;
+    let emptied = rebuilt_once(&mut pool, over, &none)?;
     same(&rt, &emptied, &leaf);
     same(&rt, &pool.mark(), &2);
+    Ok(())
+}
+
+#[test]
+fn rebuilds_to_a_loaded_node_and_back(rt: HostRuntime) -> Result<(), Fail> {
+    let mut pool = Pool::new(rt.alloc())?;
+    let leaf = load_vertex(&mut pool, 1)?;
+    let loaded = load_over(&mut pool, 2, leaf)?.ok().ok_or("load")?;
+    let mark = pool.mark();
+    let none: [UseOf; 0] = [];
+    let emptied = rebuilt_once(&mut pool, loaded, &none)?;
+    same(&rt, &emptied, &NodeId(2));
+    same(&rt, &pool.named(2), &Some(loaded));
+    if pool.kind(emptied) != Kind::Co {
+        return Err(Fail::from("kind"));
+    }
+    same(
+        &rt,
+        &rebuilt_once(&mut pool, emptied, &[use_of(leaf)])?,
+        &loaded,
+    );
+    same(&rt, &pool.mark(), &3);
+    pool.back(mark);
+    same(&rt, &pool.find(2, &none)?, &None);
+    same(&rt, &pool.find(2, &[use_of(leaf)])?, &Some(loaded));
+    same(&rt, &rebuilt_once(&mut pool, loaded, &none)?, &NodeId(2));
     Ok(())
 }
 
