@@ -7,7 +7,7 @@ use Rattle.expansion_laws.specs.Trees.{Tree, Uses, Use, node, no_use, a_use, use
 use Rattle.expansion_laws.specs.Equality.{tree_eq}
 use Rattle.expansion_laws.specs.Written.{completed, completed_uses, number_in}
 
-uses_of-list_of : (us : Uses) → uses_of (list_of us) ≡ us
+pub uses_of-list_of : (us : Uses) → uses_of (list_of us) ≡ us
 uses_of-list_of no_use = refl
 uses_of-list_of (a_use t w x others) = ap (a_use t w x) (uses_of-list_of others)
 

@@ -14,9 +14,6 @@ use Rattle.location_table.specs.Laws.{PlacesHaveWords}
 use Rattle.location_table.specs.Words.{datums_of, words_of, word_of_place}
 use Rattle.location_table.specs.Written.{IsWordOver}
 use Rattle.written_locations.specs.Further.{further_words}
-use Rattle.written_locations.proofs.Words.{further-few, further-distinct, further-from}
-use Rattle.written_locations.proofs.Adding.{word-member}
-use Rattle.written_locations.proofs.Sections.{length-written}
 use Rattle.expansion_laws.specs.Trees.{Tree, Use, Uses, node, no_use, a_use, a_single, uses, origin}
 use Rattle.expansion_laws.specs.Equality.{tree_eq}
 use Rattle.expansion_laws.specs.Measures.{subtrees}
@@ -36,6 +33,7 @@ use Rattle.brep_file.specs.Sound.{IsUse, IsSound}
 use Rattle.brep_run.specs.Dress.{head_for, made_head, rebuilt}
 use Rattle.brep_run.specs.WrittenFile.{locations_under, words_of_data, words_of_tree, words_under}
 use Rattle.brep_run.specs.Copies.{CanBeWritten}
+use Rattle.brep_run.proofs.WritingLaws.{WritingLaws}
 use Rattle.brep_run.proofs.WrittenSound.{data-within, place-over}
 use Rattle.brep_run.proofs.NumberedRecords.{NamesAboveIts, map-from_end, names_from-numbers}
 
@@ -145,7 +143,7 @@ module _ (f : File) where
           let count = count-plain in
           omega (arith, low, high, count)
 
-      module _ (renumbering : RenumberingKeepsParts) (places : PlacesHaveWords) (written : IsWritten (expansion_of f) (flat (expansion_of f).tree)) where
+      module _ (renumbering : RenumberingKeepsParts) (places : PlacesHaveWords) (laws : WritingLaws) (written : IsWritten (expansion_of f) (flat (expansion_of f).tree)) where
         -- the words under the root are words of places
         use-place : (x : Tree) (u : Use) → Contains (subtrees (expansion_of f).tree) x → Contains (uses x) u → (k : ℕ) × (k ≤ length f.locations) × (word_of_place f.locations k ≡ u.word)
         use-place x u m k = (let c = comes-from x u (stands-below x m) k in (c.file_use.location, c.is_use.location, ap (λ (v : Use). v.word) c.is))
@@ -155,13 +153,13 @@ module _ (f : File) where
           | inl k ↦ (let from = Contains-flat_map_cases (words_of_tree f) w (flat (expansion_of f).tree) k in
               elim (Contains-append_cases (words_of_data f (head_for f from.0)) (map (λ (v : Use). v.word) (uses from.0)) w from.2) [
                 | inl own ↦ (let of = Contains-map_cases (word_of_place f.locations) w (data_locations f.version (head_for f from.0).payload) own in
-                    subst (Contains (words_of f.locations)) of.2 (word-member f.locations of.0 (data-within renumbering f sound from.0 of.0 of.1)))
+                    subst (Contains (words_of f.locations)) of.2 (laws.sections.word f.locations of.0 (data-within renumbering f sound from.0 of.0 of.1)))
                 | inr l ↦ (let used = Contains-map_cases (λ (v : Use). v.word) w (uses from.0) l in
                     let place = use-place from.0 used.0 (written.lists.stand from.0 from.1) used.1 in
-                    subst (Contains (words_of f.locations)) (place.2 ∙ used.2) (word-member f.locations place.0 place.1))
+                    subst (Contains (words_of f.locations)) (place.2 ∙ used.2) (laws.sections.word f.locations place.0 place.1))
               ])
           | inr k ↦ elim (Contains-cases (expansion_of f).word w [] k) [
-            | inl same ↦ subst (Contains (words_of f.locations)) same (word-member f.locations f.root.location sound.root_location)
+            | inl same ↦ subst (Contains (words_of f.locations)) same (laws.sections.word f.locations f.root.location sound.root_location)
             | inr none ↦ absurd (Contains-none w none)
           ]
         ]
@@ -169,9 +167,9 @@ module _ (f : File) where
         few-locations : length (locations_under f (expansion_of f)) < 10 ^ 18
         few-locations =
             let words : List (List Pair) = words_under f (expansion_of f) in
-            let long = length-written (datums_of f.locations) (further_words words) in
-            let less = further-few f.locations (further_words words) (further-distinct words)
-            (λ w m. (let from = further-from words w m in (word-of_place w from.0, from.1))) in
+            let long = laws.numbers.size (datums_of f.locations) (further_words words) in
+            let less = laws.further.few f.locations (further_words words) (laws.further.distinct words)
+            (λ w m. (let from = laws.further.from words w m in (word-of_place w from.0, from.1))) in
             let few = sound.tables.countable in
             omega (arith, long, less, few)
 
@@ -179,8 +177,8 @@ module _ (f : File) where
         expansion-writable fewest = record {
           origins = λ x m. inr (stands-below x m).number;
           in_order = in-order;
-          words = λ x u m k. (let place = use-place x u m k in subst (IsWordOver (length (datums_of f.locations))) place.2 (place-over places f sound place.0 place.1));
-          root_word = place-over places f sound f.root.location sound.root_location;
+          words = λ x u m k. (let place = use-place x u m k in subst (IsWordOver (length (datums_of f.locations))) place.2 (place-over places laws.sections f sound place.0 place.1));
+          root_word = place-over places laws.sections f sound f.root.location sound.root_location;
           few_words = few-locations;
           shallow = sound.depths f.root.number sound.root;
           countable = count-flat fewest;

@@ -37,3 +37,5 @@ pub mod Reading
 pub mod ReadFiles
 pub mod AnswerLaws
 pub mod CallCounts
+pub mod WritingLaws
+pub mod RelabelledTrees

@@ -22,7 +22,7 @@ use Rattle.location_table.specs.Words.{datums_of}
 use Rattle.location_table.specs.Written.{product_of}
 use Rattle.written_locations.specs.declared.written.WrittenLocations.{WrittenLocations}
 use Rattle.written_locations.specs.Added.{further_of, IsAdded, IsNumbering, Adds}
-use Rattle.written_locations.proofs.Adding.{datums-few, few-further, adds-more}
+use Rattle.written_locations.specs.Laws.{AddedPartsJoin, SectionsHold}
 use Rattle.expansion_laws.specs.Expansion.{IsNumberOf}
 use Rattle.curve_tables.specs.Spelling.{spelling2, spelling3}
 use Rattle.mesh_tables.specs.Spelling.{spell_mesh, spell_polygon, spell_polygon_on}
@@ -44,26 +44,26 @@ use Rattle.brep_run.proofs.LayoutLemmas.{spell_others}
 take-one : {X : Type 0} (xs : List X) (i : ℕ) (d : X) → i < length xs → take (i + 1) xs ≡ take i xs ++ slice_index_or xs i d ∷ []
 take-one xs i d lt = rw add-one (take-suc xs i d lt)
 
-pub adds-use : (us : List FileUse) (i : ℕ) (d : FileUse) (s t u : WrittenLocations) → i < length us → Adds (map (λ (v : FileUse). v.location) (take i us)) s t →
+pub adds-use : AddedPartsJoin → (us : List FileUse) (i : ℕ) (d : FileUse) (s t u : WrittenLocations) → i < length us → Adds (map (λ (v : FileUse). v.location) (take i us)) s t →
     Adds ((slice_index_or us i d).location ∷ []) t u → Adds (map (λ (v : FileUse). v.location) (take (i + 1) us)) s u
-adds-use us i d s t u lt a b =
+adds-use add us i d s t u lt a b =
     subst (λ l. Adds l s u)
     (sym (ap (map (λ (v : FileUse). v.location)) (take-one us i d lt) ∙ map-append (λ (v : FileUse). v.location) (take i us) (slice_index_or us i d ∷ [])))
-    (adds-more (map (λ (v : FileUse). v.location) (take i us)) ((slice_index_or us i d).location ∷ []) s t u a b)
+    (add.joined (map (λ (v : FileUse). v.location) (take i us)) ((slice_index_or us i d).location ∷ []) s t u a b)
 
-pub adds-record : (f : File) (ns : List ℕ) (i : ℕ) (r : Record) (s t u v : WrittenLocations) → i < length ns → record_of f (slice_index ns i) ≡ Some r →
+pub adds-record : AddedPartsJoin → (f : File) (ns : List ℕ) (i : ℕ) (r : Record) (s t u v : WrittenLocations) → i < length ns → record_of f (slice_index ns i) ≡ Some r →
     Adds (flat_map (locations_of_number f) (take i ns)) s t → Adds (data_locations f.version r.head.payload) t u →
     (us : List FileUse) → us ≡ r.uses → Adds (map (λ (v : FileUse). v.location) us) u v →
     Adds (flat_map (locations_of_number f) (take (i + 1) ns)) s v
-adds-record f ns i r s t u v lt is a b us same c =
+adds-record add f ns i r s t u v lt is a b us same c =
     let own : locations_of_number f (slice_index ns i) ≡ data_locations f.version r.head.payload ++ map (λ (v : FileUse). v.location) us =
     ap (λ o. option_map_or (locations_in f.version) o []) is ∙ ap (λ l. data_locations f.version r.head.payload ++ map (λ (v : FileUse). v.location) l) (sym same) in
     subst (λ l. Adds l s v)
     (sym (ap (flat_map (locations_of_number f)) (take-one ns i 0 lt)
     ∙ flat_map-append (locations_of_number f) (take i ns) (slice_index ns i ∷ [])
     ∙ ap (λ l. flat_map (locations_of_number f) (take i ns) ++ l) (append-nil (locations_of_number f (slice_index ns i)) ∙ own)))
-    (adds-more (flat_map (locations_of_number f) (take i ns)) (data_locations f.version r.head.payload ++ map (λ (v : FileUse). v.location) us) s t v a
-    (adds-more (data_locations f.version r.head.payload) (map (λ (v : FileUse). v.location) us) t u v b c))
+    (add.joined (flat_map (locations_of_number f) (take i ns)) (data_locations f.version r.head.payload ++ map (λ (v : FileUse). v.location) us) s t v a
+    (add.joined (data_locations f.version r.head.payload) (map (λ (v : FileUse). v.location) us) t u v b c))
 
 -- ---- the uses of a sound file's records
 module _ (f : File) (tell : NumbersTell f) where
@@ -108,9 +108,9 @@ module _ (f : File) (tell : NumbersTell f) where
         places (All-contains_itself places)
 
 -- ---- how many entries the section that is written has
-pub few-written : (s : WrittenLocations) → IsNumbering s → (datums further : ℕ) → datums ≡ length (datums_of s.section.now) → further ≡ length (further_of s) → datums + further ≤ 8589934591
-few-written s n datums further d w =
-    let fewer = datums-few s.section.now in let count = few-further s n in let few = n.few in omega (arith, d, w, fewer, count, few)
+pub few-written : SectionsHold → AddedPartsJoin → (s : WrittenLocations) → IsNumbering s → (datums further : ℕ) → datums ≡ length (datums_of s.section.now) → further ≡ length (further_of s) → datums + further ≤ 8589934591
+few-written sections add s n datums further d w =
+    let fewer = sections.few_datums s.section.now in let count = add.few_further s n in let few = n.few in omega (arith, d, w, fewer, count, few)
 
 -- ---- words on a line
 spaced : (x : List ℕ) (xs : List (List ℕ)) → join_with_byte 32 (x ∷ xs) ≡ x ++ flat_map (λ (t : List ℕ). 32 ∷ t) xs

@@ -9,8 +9,7 @@ use Rattle.brep_tokens.specs.Written.{lines_text}
 use Rattle.orientation.specs.declared.turn.Turn.TheVariants.{Forward}
 use Rattle.location_table.specs.Words.{datums_of}
 use Rattle.written_locations.specs.Further.{further_words}
-use Rattle.written_locations.proofs.Adding.{datums-few}
-use Rattle.written_locations.proofs.Sections.{length-written}
+use Rattle.written_locations.specs.Laws.{NumbersArePlaces, SectionsHold}
 use Rattle.expansion_laws.specs.Trees.{Tree, uses, tree_of, origin}
 use Rattle.expansion_laws.specs.Equality.{tree_eq}
 use Rattle.brep_file.specs.declared.file.File.{File}
@@ -53,8 +52,8 @@ made-only x m = elim (Contains-cases (tree_of 0 []) x [] m) [ inl e ↦ sym e | 
 pub made-words : (f : File) → further_words (words_under f made_root) ≡ []
 made-words f = ap (λ (h : Head). further_words (((words_of_data f h ++ []) ++ []) ++ [] ∷ [])) (made_head_is f)
 
-pub made-writable : (f : File) → IsSound f → CanBeWritten f made_root
-made-writable f sound = record {
+pub made-writable : SectionsHold → NumbersArePlaces → (f : File) → IsSound f → CanBeWritten f made_root
+made-writable sections numbers f sound = record {
   origins = λ x m. inl (ap origin (made-only x m));
   in_order = λ x u m o. absurd (Contains-none u (subst (λ z. Contains (uses z) u) (made-only x m) o));
   words = λ x u m o. absurd (Contains-none u (subst (λ z. Contains (uses z) u) (made-only x m) o));
@@ -62,7 +61,7 @@ made-writable f sound = record {
   shallow = omega arith;
   countable = omega arith;
   few_words =
-      (let long = length-written (datums_of f.locations) (further_words (words_under f made_root)) in
-      let none = ap length (made-words f) in let less = datums-few f.locations in let few = sound.tables.countable in
+      (let long = numbers.size (datums_of f.locations) (further_words (words_under f made_root)) in
+      let none = ap length (made-words f) in let less = sections.few_datums f.locations in let few = sound.tables.countable in
       omega (arith, long, none, less, few));
 }

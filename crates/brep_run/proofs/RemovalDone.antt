@@ -5,6 +5,8 @@ use Rattle.std.proofs.lemmas.List.Elements.{All-contains}
 use Rattle.std.proofs.lemmas.Option.{slice_get_within, unwrap_or-slice_get}
 use Rattle.lists.proofs.Places.{place_of}
 use Rattle.lists.proofs.Members.{Contains-here, Contains-none, Contains-there}
+use Rattle.written_locations.specs.Laws.{NumbersArePlaces, SectionsHold}
+use Rattle.expansion_laws.specs.Subtrees.{SubtreesStand}
 use Rattle.expansion_laws.specs.Trees.{Tree, Use, origin}
 use Rattle.expansion_laws.specs.Contexts.{at_root}
 use Rattle.expansion_laws.specs.Expansion.{IsNumberOf, expansion, tree_of_number}
@@ -45,6 +47,9 @@ pub record Laws : Type 1 where
   pub written : (root : Use) → IsWritten root (flat root.tree)
   pub determined : (f : File) (numbers : List ℕ) → IsDetermined (removal_step f numbers)
   pub copies : (g : File) → IsSound g → CanBeWritten g (expansion_of g)
+  pub subtrees : SubtreesStand
+  pub sections : SectionsHold
+  pub numbers : NumbersArePlaces
 
 -- the origins of records' trees are their numbers
 origins-are : (g : File) → NumbersTell g → (ns : List ℕ) → ((k : ℕ) → Contains ns k → IsNumberOf (length g.records) k) → map origin (map (tree_of_record g) ns) ≡ ns
@@ -90,11 +95,11 @@ module _ (f : File) (numbers : List ℕ) (removed : ℕ → Bool) (tell : Number
 
     pairs-modify : ArePairsOf f (expansion_of g) (modified (step_history (removal_step f numbers) (expansion_of f) (expansion_of g))) pairs
     pairs-modify = subst (ArePairsOf f (expansion_of g) (modified (step_history (removal_step f numbers) (expansion_of f) (expansion_of g)))) (sym given.pairs_are)
-        (step-modifies f numbers removed tell are walk stays g before_order before given.numbers given.places orders laws.written (laws.determined f numbers) given.changed given.changes)
+        (step-modifies laws.subtrees f numbers removed tell are walk stays g before_order before given.numbers given.places orders laws.written (laws.determined f numbers) given.changed given.changes)
 
     gone-removed : AreNumbersOf f (step_history (removal_step f numbers) (expansion_of f) (expansion_of g)).removed gone
     gone-removed = subst (AreNumbersOf f (step_history (removal_step f numbers) (expansion_of f) (expansion_of g)).removed) (sym given.gone_are)
-        (step-removes f numbers removed tell are walk stays g before_order before given.numbers given.places orders laws.written (laws.determined f numbers))
+        (step-removes laws.subtrees f numbers removed tell are walk stays g before_order before given.numbers given.places orders laws.written (laws.determined f numbers))
 
     pairs-up : Ascends (map (λ (p : ℕ × ℕ). p.0) pairs)
     pairs-up =
@@ -106,7 +111,7 @@ module _ (f : File) (numbers : List ℕ) (removed : ℕ → Bool) (tell : Number
     gone-up = subst Ascends (sym given.gone_are) (passing-ascends (is_gone f before given.places) (length f.records))
 
     writable : CanBeWritten f (expansion_of g)
-    writable = writable-over f removed tell walk g given.is_after tell_g (laws.written (expansion_of g)) (laws.copies g tell_g.sound)
+    writable = writable-over f removed tell walk g given.is_after tell_g laws.subtrees (laws.written (expansion_of g)) (laws.copies g tell_g.sound)
 
     text-due : text ≡ text_of f (expansion_of g)
     text-due = given.text_is ∙ text-same f removed tell walk g given.is_after tell_g (laws.written (expansion_of g))
@@ -142,7 +147,7 @@ module _ (f : File) (numbers : List ℕ) (removed : ℕ → Bool) (tell : Number
       pub no-pair : (p : ℕ × ℕ) → Contains pairs p → ⊥
       no-pair p m =
           let is = pairs-modify.each p m in
-          let at = image-is f numbers removed tell are walk (laws.determined f numbers) stays (tree_of_record f p.0) (tree_written (expansion_of g) p.1) is.0.2 in
+          let at = image-is laws.subtrees f numbers removed tell are walk (laws.determined f numbers) stays (tree_of_record f p.0) (tree_written (expansion_of g) p.1) is.0.2 in
           is.1 (at.tree ∙ sym (same-tree at.number) ∙ sym at.image)
 
       pub no-number : (k : ℕ) → Contains gone k → ⊥
@@ -199,7 +204,7 @@ module _ (f : File) (numbers : List ℕ) (removed : ℕ → Bool) (tell : Number
     no-pair_of p m = Contains-none p (subst (λ l. Contains l p) given.pairs_are m)
 
     no-image_of : (x y : Tree) → IsImage (removal_step f numbers) (expansion_of f) x y → ⊥
-    no-image_of x y is = no-image f numbers removed tell are walk (laws.determined f numbers) goes x y is
+    no-image_of x y is = no-image laws.subtrees f numbers removed tell are walk (laws.determined f numbers) goes x y is
 
     gone-of : (k : ℕ) → Passes (is_gone f before given.places) (length f.records) k → (step_history (removal_step f numbers) (expansion_of f) made_root).removed (tree_of_record f k)
     gone-of k p =
@@ -253,7 +258,7 @@ module _ (f : File) (numbers : List ℕ) (removed : ℕ → Bool) (tell : Number
     made_root,
     record {
       root_after = root-due numbers refl;
-      writable = made-writable f tell.sound;
+      writable = made-writable laws.sections laws.numbers f tell.sound;
       written = given.text_is;
       origins_are = given.origins_are;
       pairs_are = pairs-due numbers refl;

@@ -20,7 +20,7 @@ use Rattle.expansion_laws.specs.Measures.{depth, uses_depth, subtrees}
 use Rattle.expansion_laws.specs.Expansion.{NumberedUse, IsNumberOf, expansion, tree_of_number}
 use Rattle.expansion_laws.specs.Walk.{RecordsAreTrees}
 use Rattle.expansion_laws.specs.Written.{flat, IsWritten}
-use Rattle.expansion_laws.proofs.Subtrees.{subtrees-itself, subtrees-use, subtrees-onward}
+use Rattle.expansion_laws.specs.Subtrees.{SubtreesStand}
 use Rattle.tshape_data.specs.Locations.{renumbered_head, data_locations}
 use Rattle.tshape_data.specs.Sound.{IsSoundHead}
 use Rattle.tshape_data.specs.Spelling.{spell_payload}
@@ -271,11 +271,11 @@ module _ (f : File) (removed : ℕ → Bool) (tell : NumbersTell f) (walk : Reco
           let words = words-same written in let datums = ap datums_of locations-same in
           subst (λ n. n < 10 ^ 18) (λ i. length (written_section (datums i) (further_words (words i)))) few
 
-      pub writable-over : IsWritten (expansion_of g) (flat (expansion_of g).tree) → CanBeWritten g (expansion_of g) → CanBeWritten f (expansion_of g)
-      writable-over written can = record {
+      pub writable-over : SubtreesStand → IsWritten (expansion_of g) (flat (expansion_of g).tree) → CanBeWritten g (expansion_of g) → CanBeWritten f (expansion_of g)
+      writable-over standing written can = record {
         origins = λ x m. elim (can.origins x m) [ inl e ↦ inl e | inr n ↦ inr (number-in (origin x) n) ];
         in_order = λ x u m o.
-            (let child : Contains (subtrees (expansion_of g).tree) u.tree = subtrees-onward (expansion_of g).tree x u.tree m (subtrees-use x u u.tree o (subtrees-itself u.tree)) in
+            (let child : Contains (subtrees (expansion_of g).tree) u.tree = standing.onward (expansion_of g).tree x u.tree m (standing.below x u u.tree o (standing.itself u.tree)) in
             subst (λ a. IsBelow a (head_for f x).kind) (ap (λ (h : Head). h.kind) (head-same u.tree child))
             (subst (IsBelow (head_for g u.tree).kind) (ap (λ (h : Head). h.kind) (head-same x m)) (can.in_order x u m o)));
         words = λ x u m o. subst (λ l. IsWordOver (length (datums_of l)) u.word) locations-same (can.words x u m o);

@@ -5,6 +5,7 @@ use Rattle.lists.proofs.Members.{Contains-map, Contains-map_cases}
 use Rattle.lists.proofs.Cases.{by_test}
 use Rattle.orientation.specs.declared.kind.Kind.{Kind}
 use Rattle.orientation.specs.declared.kind.Kind.TheVariants.{Ve, Ed, Wi, Fa, Sh, So, CS, Co}
+use Rattle.expansion_laws.specs.Subtrees.{SubtreesStand}
 use Rattle.expansion_laws.specs.Trees.{Tree, Use, origin}
 use Rattle.expansion_laws.specs.Equality.{tree_eq}
 use Rattle.expansion_laws.specs.Expansion.{IsNumberOf}
@@ -81,7 +82,7 @@ pub record Orders (f : File) (removed : ℕ → Bool) (g : File) (before_order b
   pub placed : ArePlaced (length f.records) order places
   pub completed : Completes g g.root.number [] order
 
-module _ (f : File) (numbers : List ℕ) (removed : ℕ → Bool) (tell : NumbersTell f) (are : AreRemoved f numbers removed) (walk : RecordsAreTrees (kept_records f removed))
+module _ (standing : SubtreesStand) (f : File) (numbers : List ℕ) (removed : ℕ → Bool) (tell : NumbersTell f) (are : AreRemoved f numbers removed) (walk : RecordsAreTrees (kept_records f removed))
     (stays : removed f.root.number ≡ false) (g : File) (before_order before order places : List ℕ) (orders : Orders f removed g before_order before order places)
     (roots : (root : Use) → IsWritten root (flat root.tree)) where
   in_g : (k : ℕ) → IsNumberOf (length f.records) k → IsNumberOf (length g.records) k
@@ -114,9 +115,9 @@ module _ (f : File) (numbers : List ℕ) (removed : ℕ → Bool) (tell : Number
       placed-stands g orders.tell_after (expansion_of g) order places placed_in_g orders.completed.trees (roots (expansion_of g)).lists k (in_g k n)
       (subst (λ x. Contains (subtrees (expansion_of g).tree) x) (sym (tree-is k)) (subst (λ x. Contains (subtrees x) (tree_after f removed k)) (sym root-is) m))
 
-  reaches : (k : ℕ) → IsNumberOf (length f.records) k → has_place places k ≡ true → Reached f numbers removed tell are walk f.root.number k
+  reaches : (k : ℕ) → IsNumberOf (length f.records) k → has_place places k ≡ true → Reached standing f numbers removed tell are walk f.root.number k
   reaches k n e = (let low = tell.sound.root.0 in
-      reached f numbers removed tell are walk (suc (length f.records)) f.root.number k (omega (arith, low)) tell.sound.root n stays (stand k n e))
+      reached standing f numbers removed tell are walk (suc (length f.records)) f.root.number k (omega (arith, low)) tell.sound.root n stays (stand k n e))
 
   -- what occurs in the first root is a record's tree
   occurs-is : (x : Tree) → OccursIn x (expansion_of f).tree → Stands f tell.sound tell.trees x
@@ -129,8 +130,8 @@ module _ (f : File) (numbers : List ℕ) (removed : ℕ → Bool) (tell : Number
   step-generates_none t s is = none-replaced f numbers t is.0 is.4
 
   module _ (determined : IsDetermined (removal_step f numbers)) where
-    imaged : (x y : Tree) → IsImage (removal_step f numbers) (expansion_of f) x y → Imaged f numbers removed tell are walk x y
-    imaged x y is = image-is f numbers removed tell are walk determined stays x y is
+    imaged : (x y : Tree) → IsImage (removal_step f numbers) (expansion_of f) x y → Imaged standing f numbers removed tell are walk x y
+    imaged x y is = image-is standing f numbers removed tell are walk determined stays x y is
 
     image-place : (k : ℕ) (y : Tree) → IsNumberOf (length f.records) k → IsImage (removal_step f numbers) (expansion_of f) (tree_of_record f k) y → has_place places k ≡ true
     image-place k y n is =
@@ -165,7 +166,7 @@ module _ (f : File) (numbers : List ℕ) (removed : ℕ → Bool) (tell : Number
           is.0,
           is.1,
           subst (λ x. IsImage (removal_step f numbers) (expansion_of f) x (tree_after f removed k)) (sym stands.tree)
-              (image-of f numbers removed tell are walk k stands.number (reaches k stands.number e)),
+              (image-of standing f numbers removed tell are walk k stands.number (reaches k stands.number e)),
         ) in
         let none : has_place places k ≡ false = by_test (has_place places k) (λ e. absurd (not_placed e)) (λ e. e) in
         let test : is_gone f before places k ≡ true = and-both (is_supported (head_of f k).kind) (has_place before k && not (has_place places k)) (is-supported (head_of f k).kind supported)
@@ -216,7 +217,7 @@ module _ (f : File) (numbers : List ℕ) (removed : ℕ → Bool) (tell : Number
           let at = reaches k is.in_file is.has in
           subst (λ (q : ℕ × ℕ). modified told_history (tree_of_record f q.0) (tree_written (expansion_of g) q.1)) is.is
           (subst (λ y. modified told_history (tree_of_record f k) y) (sym (written-is k is.in_file is.has)) (
-            (subst IsSupported (sym (kind-is f numbers tell k is.in_file)) (supported-is (head_of f k).kind is.supported), at.below, image-of f numbers removed tell are walk k is.in_file at),
+            (subst IsSupported (sym (kind-is f numbers tell k is.in_file)) (supported-is (head_of f k).kind is.supported), at.below, image-of standing f numbers removed tell are walk k is.in_file at),
             other-tree k is.in_file is.differs,
           ))
 

@@ -13,7 +13,6 @@ use Rattle.expansion_laws.specs.Trees.{Tree, Use, a_single, uses}
 use Rattle.expansion_laws.specs.Expansion.{IsNumberOf}
 use Rattle.expansion_laws.specs.Steps.{kind, is_entered, entered}
 use Rattle.expansion_laws.specs.Rewriting.{rebuilt, is_pruned, remains}
-use Rattle.expansion_laws.proofs.Subtrees.{tree-parts}
 use Rattle.brep_file.specs.declared.uses.FileUse.{FileUse}
 use Rattle.brep_file.specs.declared.records.Record.{Record}
 use Rattle.brep_file.specs.declared.file.File.{File}
@@ -23,6 +22,7 @@ use Rattle.brep_run.specs.Dress.{head_of, made_head}
 use Rattle.brep_run.specs.Completion.{NumbersTell, use_of_tree}
 use Rattle.brep_run.specs.Removal.{removal_step}
 use Rattle.brep_run.proofs.CopyLemmas.{record-at}
+use Rattle.brep_run.proofs.RemovalTrees.{tree-parts}
 use Rattle.brep_run.proofs.Numbering.{plain_number, uses_of_tree}
 
 -- ---- kinds
@@ -104,5 +104,5 @@ module _ (f : File) (numbers : List ℕ) where
         (λ e.
         let bare : uses (tree_of_record f k) ≡ [] = stopped-bare k n (ap (is_entered (removal_step f numbers)) (sym is) ∙ e) in
         let same : rebuilt u below ≡ rebuilt u (uses u.tree) = ap (rebuilt u) (none bare ∙ sym (ap uses is ∙ bare)) in
-        let itself : rebuilt u (uses u.tree) ≡ u = ap (λ x. a_single u.turn u.word x) (tree-parts u.tree) in
+        let itself : rebuilt u (uses u.tree) ≡ u = ap (λ x. a_single u.turn u.word x) (sym (tree-parts u.tree)) in
         ap (λ (b : Bool). if b then further else u ∷ []) e ∙ ap (λ v. v ∷ []) (sym (same ∙ itself)))

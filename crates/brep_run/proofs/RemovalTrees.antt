@@ -12,7 +12,6 @@ use Rattle.expansion_laws.specs.Trees.{Tree, Use, node, uses, origin, tree_of}
 use Rattle.expansion_laws.specs.Equality.{tree_eq}
 use Rattle.expansion_laws.specs.Expansion.{NumberedUse, IsNumberOf, IsFile, expanded, trees_of_file}
 use Rattle.expansion_laws.specs.Walk.{RecordsAreTrees}
-use Rattle.expansion_laws.proofs.Subtrees.{uses_of-list_of}
 use Rattle.brep_file.specs.declared.uses.FileUse.{FileUse}
 use Rattle.brep_file.specs.declared.records.Record.{Record}
 use Rattle.brep_file.specs.declared.file.File.{File}
@@ -21,6 +20,7 @@ use Rattle.brep_file.specs.Sound.{IsUse, IsSound}
 use Rattle.brep_run.specs.Completion.{NumbersTell, use_of_tree}
 use Rattle.brep_run.specs.Remaining.{kept_records, tree_after, is_touched}
 use Rattle.brep_file.specs.Marks.{kept_uses}
+use Rattle.brep_run.proofs.CompletedTrees.{uses_of-list_of}
 use Rattle.brep_run.proofs.CopyLemmas.{record-at}
 use Rattle.brep_run.proofs.KeptLists.{filter-all, any-none, map-same, map-kept}
 use Rattle.brep_run.proofs.NumberedRecords.{NamesAboveIts, map-from_end, names_from-numbers}

@@ -14,7 +14,7 @@ use Rattle.expansion_laws.specs.RewritingLaws.{IsDetermined}
 use Rattle.expansion_laws.specs.Steps.{Step, is_entered}
 use Rattle.expansion_laws.specs.Visits.{LeadsTo, itself, onto, IsVisit, IsStopped, IsResult, IsImage}
 use Rattle.expansion_laws.specs.Walk.{RecordsAreTrees}
-use Rattle.expansion_laws.proofs.Subtrees.{subtrees-itself, subtrees-cases, subtrees-use}
+use Rattle.expansion_laws.specs.Subtrees.{SubtreesStand}
 use Rattle.brep_file.specs.declared.uses.FileUse.{FileUse}
 use Rattle.brep_file.specs.declared.file.File.{File}
 use Rattle.brep_file.specs.PlainRecords.{tree_of_record, expansion_of}
@@ -30,7 +30,7 @@ use Rattle.brep_run.proofs.RemovalMatches.{match-removes}
 use Rattle.brep_run.proofs.RemovalKinds.{stopped-bare, entered-uses}
 use Rattle.brep_run.proofs.RemovalRewriting.{AreRemoved, result_of, result-gone, result-stays, match-none, match-some, rewrites-are}
 
-module _ (f : File) (numbers : List ℕ) (removed : ℕ → Bool) (tell : NumbersTell f) (are : AreRemoved f numbers removed) (walk : RecordsAreTrees (kept_records f removed)) where
+module _ (standing : SubtreesStand) (f : File) (numbers : List ℕ) (removed : ℕ → Bool) (tell : NumbersTell f) (are : AreRemoved f numbers removed) (walk : RecordsAreTrees (kept_records f removed)) where
   abbrev the_step : Step
   the_step = removal_step f numbers
 
@@ -58,7 +58,7 @@ module _ (f : File) (numbers : List ℕ) (removed : ℕ → Bool) (tell : Number
     pub stands : (removed number ≡ true) ⊎ Contains (subtrees (tree_after f removed k)) (tree_after f removed number)
 
   visited : (x y : Tree) (here there : Context) → LeadsTo the_step x here y there → (k : ℕ) → IsNumberOf (length f.records) k → x ≡ tree_of_record f k → removed k ≡ false → Visited k y
-  visited x y here there itself k n is e = record { number = k; in_file = n; tree = is; stands = inr (subtrees-itself (tree_after f removed k)) }
+  visited x y here there itself k n is e = record { number = k; in_file = n; tree = is; stands = inr (standing.itself (tree_after f removed k)) }
   visited x y here there (onto v m rest) k n is e =
       let at = record-at f k n in
       let listed : Contains (map (use_of_tree f) at.0.uses) v =
@@ -83,7 +83,7 @@ module _ (f : File) (numbers : List ℕ) (removed : ℕ → Bool) (tell : Number
         number = on.number;
         in_file = on.in_file;
         tree = on.tree;
-        stands = elim on.stands [ inl gone ↦ inl gone | inr h ↦ inr (subtrees-use (tree_after f removed k) (use_after f removed w) (tree_after f removed on.number) used h) ];
+        stands = elim on.stands [ inl gone ↦ inl gone | inr h ↦ inr (standing.below (tree_after f removed k) (use_after f removed w) (tree_after f removed on.number) used h) ];
       })
 
   -- ---- what stands in the new tree of a record that stays is visited
@@ -95,11 +95,11 @@ module _ (f : File) (numbers : List ℕ) (removed : ℕ → Bool) (tell : Number
   pub reached : (m k j : ℕ) → length f.records < k + m → IsNumberOf (length f.records) k → IsNumberOf (length f.records) j → removed k ≡ false →
       Contains (subtrees (tree_after f removed k)) (tree_after f removed j) → Reached k j
   reached zero k j deep n nj e h = (let high = n.1 in absurd (omega (arith, high, deep)))
-  reached (suc m) k j deep n nj e h = elim (subtrees-cases (tree_after f removed k) (tree_after f removed j) h) [
+  reached (suc m) k j deep n nj e h = elim (standing.cases (tree_after f removed k) (tree_after f removed j) h) [
     | inl same ↦ (let equal : k ≡ j = walk.apart k j (kept-number f removed k n) (kept-number f removed j nj) same in
         subst (λ z. Reached k z) equal (record {
           stays = e;
-          below = subtrees-itself (tree_of_record f k);
+          below = standing.itself (tree_of_record f k);
           leads = λ here. (here, itself);
         }))
     | inr deeper ↦ (let at = record-at f k n in
@@ -116,7 +116,7 @@ module _ (f : File) (numbers : List ℕ) (removed : ℕ → Bool) (tell : Number
         subst (λ l. Contains l (use_of_tree f w)) (sym (uses_of_tree f tell k at.0 n at.1)) (Contains-map (use_of_tree f) w at.0.uses kept.0) in
         record {
           stays = on.stays;
-          below = subtrees-use (tree_of_record f k) (use_of_tree f w) (tree_of_record f j) used on.below;
+          below = standing.below (tree_of_record f k) (use_of_tree f w) (tree_of_record f j) used on.below;
           leads = λ here.
               (let further = on.leads (inside here (use_of_tree f w)) in
               (further.0, onto (use_of_tree f w) (subst (λ l. Contains l (use_of_tree f w)) (sym (demands-uses k here n e)) used) further.1));

@@ -12,7 +12,6 @@ use Rattle.expansion_laws.specs.Expansion.{IsNumberOf, tree_of_number, expansion
 use Rattle.expansion_laws.specs.Sharing.{relabelled, relabelled_use, with_origins, use_with_origins, IsShared}
 use Rattle.expansion_laws.specs.Written.{flat, number_in, numbered, records_of, origins_of, IsWritten}
 use Rattle.expansion_laws.specs.Walk.{RecordsAreTrees}
-use Rattle.expansion_laws.proofs.Relabelling.{relabelled-twice, relabelled-same}
 use Rattle.tshape_data.specs.Laws.{RenumberingKeepsParts}
 use Rattle.tshape_data.specs.Parts.{Part, token, entry, located, payload_parts}
 use Rattle.tshape_data.specs.Locations.{renumbered_part, location_of_part}
@@ -31,9 +30,12 @@ use Rattle.location_table.specs.Words.{datums_of, word_of_place}
 use Rattle.written_locations.specs.Further.{further_words}
 use Rattle.brep_run.specs.WrittenFile.{location_under, words_under, written_file, written_head}
 use Rattle.brep_run.specs.Copies.{CanBeWritten, StandsFor}
+use Rattle.brep_run.proofs.RelabelledTrees.{relabelled-twice, relabelled-same}
+use Rattle.brep_run.proofs.WritingLaws.{WritingLaws}
 use Rattle.brep_run.proofs.WrittenSound.{data-listed, record-made, tree-made, plain-made, root-made, word-again}
 
-module _ (f : File) (root : Use) (can : CanBeWritten f root) (written : IsWritten root (flat root.tree)) (walk : RecordsAreTrees (records_of (flat root.tree))) (sound : IsSound f) (renumbering : RenumberingKeepsParts) (places : PlacesHaveWords) (law : WrittenIsHeld) where
+module _ (f : File) (root : Use) (can : CanBeWritten f root) (written : IsWritten root (flat root.tree)) (walk : RecordsAreTrees (records_of (flat root.tree))) (sound : IsSound f) (renumbering : RenumberingKeepsParts) (places : PlacesHaveWords)
+    (laws : WritingLaws) (law : WrittenIsHeld) where
   abbrev trees : List Tree
   trees = flat root.tree
 
@@ -57,11 +59,11 @@ module _ (f : File) (root : Use) (can : CanBeWritten f root) (written : IsWritte
   dressed_of x = dressed made (head_of made (origin x))
 
   expansion-made : expansion_of made ≡ again
-  expansion-made = λ i. expansion (plain-made f root can written sound renumbering places law i) (root-made f root can written sound renumbering places law i)
+  expansion-made = λ i. expansion (plain-made f root can written sound renumbering places laws law i) (root-made f root can written sound renumbering places laws law i)
 
   -- the number of a tree has the head under which the tree is written
   head-made : (k : ℕ) (x : Tree) → slice_get trees (length trees - k) ≡ Some x → head_of made k ≡ written_head f location (head_for f x)
-  head-made k x e = ap (λ (o : Option Record). option_map_or (λ r. r.head) o made_head) (record-made f root can written sound renumbering places k x e)
+  head-made k x e = ap (λ (o : Option Record). option_map_or (λ r. r.head) o made_head) (record-made f root can written sound renumbering places laws k x e)
 
   -- the tree of a number is that of the record, with the origins put back
   number-stands : (k : ℕ) (x : Tree) → IsNumberOf (length trees) k → slice_get trees (length trees - k) ≡ Some x → restore (tree_of_number (records_of trees) k) ≡ x
@@ -94,14 +96,14 @@ module _ (f : File) (root : Use) (can : CanBeWritten f root) (written : IsWritte
       let same : map (dressed_part made) (payload_parts f.version (written_head f location h).payload) ≡ map (dressed_part f) (payload_parts f.version h.payload) =
       ap (map (dressed_part made)) (renumbering.parts f.version (λ n. location (word_of_place f.locations n)) h.payload)
       ∙ parts-again (payload_parts f.version h.payload)
-      (λ n k. word-again f root can written sound renumbering places law (word_of_place f.locations n) (data-listed f root can written sound renumbering places x n m k)) in
+      (λ n k. word-again f root can written sound renumbering places laws law (word_of_place f.locations n) (data-listed f root can written sound renumbering places laws x n m k)) in
       λ i. record { kind = h.kind; parts = same i; flags = h.flags }
 
   same-dress : (y : Tree) → Contains (subtrees again.tree) y → dressed_of y ≡ dressed_for (restore y)
   same-dress y m =
       let stands = walk.below (number_in trees root.tree) y written.file.names_root m in
       let n : IsNumberOf (length trees) (origin y) = subst (λ j. IsNumberOf j (origin y)) (length-map trees (λ x. map (numbered trees) (uses x))) stands.0 in
-      let at = tree-made f root can written sound renumbering places (origin y) n in
+      let at = tree-made f root can written sound renumbering places laws (origin y) n in
       ap (dressed made) (head-made (origin y) at.0 at.1)
       ∙ dressed-again at.0 (Contains-at trees (length trees - origin y) at.0 at.1)
       ∙ ap dressed_for (sym (ap restore stands.1 ∙ number-stands (origin y) at.0 n at.1))
@@ -123,6 +125,6 @@ module _ (f : File) (root : Use) (can : CanBeWritten f root) (written : IsWritte
     relabelled = ap (use_with_origins (origins_of trees)) expansion-made ∙ written.expands;
     version = refl;
     datums = law.datums_are (datums_of f.locations) (further_words (words_under f root));
-    shared = subst (λ records. IsShared records (plain_root made) (origins_of trees)) (sym (plain-made f root can written sound renumbering places law))
-        (subst (λ use_of. IsShared (records_of trees) use_of (origins_of trees)) (sym (root-made f root can written sound renumbering places law)) written.shared);
+    shared = subst (λ records. IsShared records (plain_root made) (origins_of trees)) (sym (plain-made f root can written sound renumbering places laws law))
+        (subst (λ use_of. IsShared (records_of trees) use_of (origins_of trees)) (sym (root-made f root can written sound renumbering places laws law)) written.shared);
   }

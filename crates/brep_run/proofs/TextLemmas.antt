@@ -24,6 +24,7 @@ use Rattle.surface_tables.specs.Spelling.{spell_surface}
 use Rattle.tshape_data.specs.Laws.{LinesAreExact, RenumberingKeepsParts}
 use Rattle.entry_readers.specs.Begins.{IsDecimal}
 use Rattle.brep_run.proofs.LayoutLemmas.{EntriesArePlain, layout-spells}
+use Rattle.brep_run.proofs.WritingLaws.{WritingLaws}
 use Rattle.brep_run.proofs.WrittenSound.{written-sound}
 use Rattle.brep_run.proofs.Standing.{written-stands}
 use Rattle.brep_run.proofs.CopyLemmas.{file-sound, expansion-writable}
@@ -42,6 +43,7 @@ module _
     (meshes : MeshesAreExact)
     (heads : LinesAreExact)
     (renumbering : RenumberingKeepsParts)
+    (laws : WritingLaws)
   where
     decimals-plain : (texts : List (List ℕ)) → AllByRecursion IsDecimal texts → AllByRecursion IsPlain texts
     decimals-plain [] are = tt
@@ -68,8 +70,8 @@ module _
         record {
           spelled = (
             written_file f root,
-            layout-spells written_is_read plain heads (written_file f root) (written-sound f root can written sound renumbering places held),
-            written-stands f root can written (records_are_trees (records_of (flat root.tree)) (numbered (flat root.tree) root) written.file) sound renumbering places held,
+            layout-spells written_is_read plain heads (written_file f root) (written-sound f root can written sound renumbering places laws held),
+            written-stands f root can written (records_are_trees (records_of (flat root.tree)) (numbered (flat root.tree) root) written.file) sound renumbering places laws held,
           );
           one = reading_is_exact.one (text_of f root);
         }
@@ -77,5 +79,5 @@ module _
     pub texts-stand : TextsStandForRoots
     texts-stand = record {
       texts = text-for;
-      copies = λ f sound. expansion-writable f sound (records_are_trees (plain_records f) (plain_root f) (file-sound f sound)) renumbering places (roots_are_written (expansion_of f)) (fewest (expansion_of f));
+      copies = λ f sound. expansion-writable f sound (records_are_trees (plain_records f) (plain_root f) (file-sound f sound)) renumbering places laws (roots_are_written (expansion_of f)) (fewest (expansion_of f));
     }

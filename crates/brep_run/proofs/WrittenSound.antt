@@ -7,6 +7,7 @@ use Rattle.std.proofs.lemmas.List.{length-map}
 use Rattle.std.proofs.lemmas.List.Elements.{All-map, All-weaker, All-contains, All-contains_itself, Contains-append_left, Contains-append_right, Contains-append_cases}
 use Rattle.std.proofs.lemmas.Option.{same_Some, slice_get_within}
 use Rattle.lists.proofs.Places.{Contains-at, at_place}
+use Rattle.lists.proofs.Each.{each-member}
 use Rattle.lists.proofs.Members.{Contains-cases, Contains-flat_map, Contains-flat_map_cases, Contains-here, Contains-map, Contains-map_cases, Contains-none}
 use Rattle.orientation.specs.Kinds.{IsBelow}
 use Rattle.location_words.specs.declared.pair.Pair.{Pair}
@@ -14,16 +15,13 @@ use Rattle.location_table.specs.Laws.{PlacesHaveWords, WrittenIsHeld}
 use Rattle.location_table.specs.Locations.{spell_location}
 use Rattle.location_table.specs.Words.{datums_of, word_of_place, words_of}
 use Rattle.location_table.specs.Written.{IsWordOver}
+use Rattle.written_locations.specs.Laws.{SectionsHold}
 use Rattle.written_locations.specs.Further.{further_words}
-use Rattle.written_locations.proofs.Words.{further-found, further-from}
-use Rattle.written_locations.proofs.Adding.{datums-few, word-member}
-use Rattle.written_locations.proofs.Sections.{each-member, place-of_word, place-within_section, datums-sound}
 use Rattle.expansion_laws.specs.Trees.{Tree, Use, uses, origin}
 use Rattle.expansion_laws.specs.Equality.{tree_eq}
 use Rattle.expansion_laws.specs.Measures.{depth}
 use Rattle.expansion_laws.specs.Expansion.{NumberedUse, IsNumberOf, tree_of_number}
 use Rattle.expansion_laws.specs.Written.{flat, number_in, numbered, records_of, IsWritten}
-use Rattle.expansion_laws.proofs.Subtrees.{subtrees-itself, subtrees-use, subtrees-onward}
 use Rattle.tshape_data.specs.Laws.{RenumberingKeepsParts}
 use Rattle.tshape_data.specs.Locations.{data_locations}
 use Rattle.tshape_data.specs.Sound.{IsSoundHead}
@@ -41,6 +39,7 @@ use Rattle.brep_run.specs.Copies.{CanBeWritten}
 use Rattle.brep_run.proofs.LayoutLemmas.{each-append, each-flat_map, spell_others}
 use Rattle.brep_run.proofs.NumberedRecords.{map-map, map-from_end, names_of-number}
 use Rattle.brep_run.proofs.ShortTokens.{Short, AreShort, each-left, each-right, each-map, datums-short, written-entries, section-short, use-short, each-contains, renumbered_payload-short, record-short, shape_tokens, payload-for}
+use Rattle.brep_run.proofs.WritingLaws.{WritingLaws}
 
 -- ---- heads
 -- a head, perhaps rebuilt
@@ -70,12 +69,13 @@ data-within renumbering f sound x n m =
     All-contains (λ (j : ℕ). j ≤ length f.locations) (data_locations f.version (head_for f x).payload) n
     (renumbering.within (sizes_of f) f.version (head_for f x) (head-sound f sound x)) m
 
-pub place-over : PlacesHaveWords → (f : File) → IsSound f → (k : ℕ) → k ≤ length f.locations → IsWordOver (length (datums_of f.locations)) (word_of_place f.locations k)
-place-over places f sound k le =
+pub place-over : PlacesHaveWords → SectionsHold → (f : File) → IsSound f → (k : ℕ) → k ≤ length f.locations → IsWordOver (length (datums_of f.locations)) (word_of_place f.locations k)
+place-over places sections f sound k le =
     each-contains (IsWordOver (length (datums_of f.locations))) (words_of f.locations) (word_of_place f.locations k)
-    (places.held f.locations sound.tables.locations) (word-member f.locations k le)
+    (places.held f.locations sound.tables.locations) (sections.word f.locations k le)
 
-module _ (f : File) (root : Use) (can : CanBeWritten f root) (written : IsWritten root (flat root.tree)) (sound : IsSound f) (renumbering : RenumberingKeepsParts) (places : PlacesHaveWords) where
+module _ (f : File) (root : Use) (can : CanBeWritten f root) (written : IsWritten root (flat root.tree)) (sound : IsSound f) (renumbering : RenumberingKeepsParts) (places : PlacesHaveWords)
+    (laws : WritingLaws) where
   abbrev trees : List Tree
   trees = flat root.tree
 
@@ -124,7 +124,7 @@ module _ (f : File) (root : Use) (can : CanBeWritten f root) (written : IsWritte
     | inl k ↦ (let from = Contains-flat_map_cases (words_of_tree f) w trees k in
         elim (Contains-append_cases (words_of_data f (head_for f from.0)) (map (λ (v : Use). v.word) (uses from.0)) w from.2) [
           | inl own ↦ (let of = Contains-map_cases (word_of_place f.locations) w (data_locations f.version (head_for f from.0).payload) own in
-              subst (IsWordOver (length datums)) of.2 (place-over places f sound of.0 (data-within renumbering f sound from.0 of.0 of.1)))
+              subst (IsWordOver (length datums)) of.2 (place-over places laws.sections f sound of.0 (data-within renumbering f sound from.0 of.0 of.1)))
           | inr l ↦ (let used = Contains-map_cases (λ (v : Use). v.word) w (uses from.0) l in
               subst (IsWordOver (length datums)) used.2 (can.words from.0 used.0 (written.lists.stand from.0 from.1) used.1))
         ])
@@ -132,15 +132,15 @@ module _ (f : File) (root : Use) (can : CanBeWritten f root) (written : IsWritte
   ]
 
   pub over-further : AllByRecursion (IsWordOver (length datums)) further
-  over-further = each-member (IsWordOver (length datums)) further (λ w m. word-over w (further-from (words_under f root) w m).0)
+  over-further = each-member (IsWordOver (length datums)) further (λ w m. word-over w (laws.further.from (words_under f root) w m).0)
 
   module _ (law : WrittenIsHeld) where
     -- the location of a word has it again
     pub word-again : (w : List Pair) → Contains (words_under f root) w → word_of_place made.locations (location w) ≡ w
-    word-again w m = place-of_word law datums further over-further w (word-over w m) (λ e. further-found (words_under f root) w m e)
+    word-again w m = laws.numbers.word datums further over-further w (word-over w m) (λ e. laws.further.found (words_under f root) w m e)
 
     word-within : (w : List Pair) → Contains (words_under f root) w → location w ≤ length made.locations
-    word-within w m = place-within_section law datums further over-further w (word-over w m) (λ e. further-found (words_under f root) w m e)
+    word-within w m = laws.numbers.within datums further over-further w (word-over w m) (λ e. laws.further.found (words_under f root) w m e)
 
     -- without their data they are the records of the trees
     pub plain-made : plain_records made ≡ records_of trees
@@ -153,7 +153,7 @@ module _ (f : File) (root : Use) (can : CanBeWritten f root) (written : IsWritte
     root-made = λ i. record { turn = root.turn; word = word-again root.word root-listed i; number = number_in trees root.tree }
 
   stands-root : Contains trees root.tree
-  stands-root = written.lists.all root.tree (subtrees-itself root.tree)
+  stands-root = written.lists.all root.tree (laws.subtrees.itself root.tree)
 
   -- a number of a tree is one of the file
   number-made : (x : Tree) → Contains trees x → IsNumberOf (length made.records) (number_in trees x)
@@ -172,7 +172,7 @@ module _ (f : File) (root : Use) (can : CanBeWritten f root) (written : IsWritte
         IsUse made k (head_for f x).kind (written_use location trees u)
     use-made k x n e u m =
         let stands = written.lists.stand x (Contains-at trees (length trees - k) x e) in
-        let listed : Contains trees u.tree = written.lists.all u.tree (subtrees-onward root.tree x u.tree stands (subtrees-use x u u.tree m (subtrees-itself u.tree))) in
+        let listed : Contains trees u.tree = written.lists.all u.tree (laws.subtrees.onward root.tree x u.tree stands (laws.subtrees.below x u u.tree m (laws.subtrees.itself u.tree))) in
         record {
           above = names-made k x n e u m;
           named = (number-made u.tree listed).1;
@@ -201,12 +201,12 @@ module _ (f : File) (root : Use) (can : CanBeWritten f root) (written : IsWritte
 
     -- ---- tables and tokens
     few-datums : length datums < 10 ^ 18
-    few-datums = (let few = sound.tables.countable in let less = datums-few f.locations in omega (arith, few, less))
+    few-datums = (let few = sound.tables.countable in let less = laws.sections.few_datums f.locations in omega (arith, few, less))
 
     tables-made : AreSoundTables made
     tables-made = record {
       countable = can.few_words;
-      locations = law.sound_section datums further few-datums (datums-sound f.locations sound.tables.locations) over-further;
+      locations = law.sound_section datums further few-datums (laws.sections.datums f.locations sound.tables.locations) over-further;
       curve2s = sound.tables.curve2s;
       curves = sound.tables.curves;
       polygons = sound.tables.polygons;
@@ -239,7 +239,7 @@ module _ (f : File) (root : Use) (can : CanBeWritten f root) (written : IsWritte
         (renumbered_payload-short renumbering f.version (λ n. location (word_of_place f.locations n)) (head_for f x).payload (payload-for f sound x)
         (λ n k. (let within = renumbered-within x m n k in let few_words = can.few_words in omega (arith, within, few_words))))
         (each-map (λ (v : FileUse). (v.number < 10 ^ 18) × (v.location < 10 ^ 18)) (written_use location trees) (uses x) (λ u k.
-        use-small u (written.lists.all u.tree (subtrees-onward root.tree x u.tree (written.lists.stand x m) (subtrees-use x u u.tree k (subtrees-itself u.tree)))) (word-listed x u m k)))
+        use-small u (written.lists.all u.tree (laws.subtrees.onward root.tree x u.tree (written.lists.stand x m) (laws.subtrees.below x u u.tree k (laws.subtrees.itself u.tree)))) (word-listed x u m k)))
 
     tokens-made : AreShort (spell_file made)
     tokens-made =

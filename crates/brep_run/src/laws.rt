@@ -4,11 +4,12 @@ ghost use Rattle.brep_run.specs.Copies.{TextsStandForRoots};
 use brep_file::laws::reading_is_exact;
 use brep_tokens::laws::written_is_read;
 use curve_tables::laws::curves_are_exact;
-use expansion_laws::laws::{fewest, records_are_trees, roots_are_written};
+use expansion_laws::laws::{fewest, records_are_trees, roots_are_written, subtrees_stand};
 use location_table::laws::{locations_are_exact, places_have_words, written_is_held};
 use mesh_tables::laws::meshes_are_exact;
 use surface_tables::laws::surfaces_are_exact;
 use tshape_data::laws::{head_lines_are_exact, renumbering_keeps_parts};
+use written_locations::laws::{further_words_are_due, numbers_are_places, sections_hold};
 
 /// The text that is written for a root spells one file, which stands for that root.
 pub fn texts_stand_for_roots()
@@ -27,4 +28,8 @@ pub fn texts_stand_for_roots()
     meshes_are_exact();
     head_lines_are_exact();
     renumbering_keeps_parts();
+    subtrees_stand();
+    sections_hold();
+    further_words_are_due();
+    numbers_are_places();
 }

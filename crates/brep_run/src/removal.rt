@@ -17,13 +17,14 @@ use crate::writer::{Order, made_text, order_of, text_in_order};
 use brep_file::{File, is_marked};
 use brep_tokens::Numbers;
 use expansion_laws::laws::{
-    equal_trees_tell, records_are_trees, results_are_determined, roots_are_written,
+    equal_trees_tell, records_are_trees, results_are_determined, roots_are_written, subtrees_stand,
 };
 use history::{gone_numbers, modified_pairs, origins_in};
 use history_text::NumberPairs;
 use marks::marked;
 use remaining::without_marked;
 use std::alloc::{AllocError, Global};
+use written_locations::laws::{numbers_are_places, sections_hold};
 
 /// What a removal writes: the text of the file, and of its history the origin of each written number, the pairs of a
 /// modified record and the number it is written with, and the records that are gone. Nothing is generated.
@@ -94,6 +95,9 @@ pub(crate) fn remove_shapes(
     results_are_determined();
     roots_are_written();
     texts_stand_for_roots();
+    subtrees_stand();
+    sections_hold();
+    numbers_are_places();
     let marks = marked(alloc, file.records.len(), numbers)?;
     let before = order_of(alloc, &file)?;
     if is_marked(&marks, file.root.number as usize) {

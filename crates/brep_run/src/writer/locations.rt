@@ -23,6 +23,7 @@ use std::alloc::{AllocError, Global};
 use tshape_data::laws::renumbering_keeps_parts;
 use written_heads::add_head_locations;
 use written_locations::WrittenLocations;
+use written_locations::laws::{added_parts_join, sections_hold};
 
 /// The locations of uses are added.
 fn add_use_locations(
@@ -33,6 +34,7 @@ fn add_use_locations(
     requires within { All (λ u. u.location ≤ length locations.old.section.now) uses.now }
     ensures { OnOk result (Adds (map (λ u. u.location) uses.now) locations.old locations.new) }
 {
+    added_parts_join();
     for used in uses {
         locations.add(used.location)?;
     }
@@ -52,6 +54,7 @@ fn add_record_locations(
     ensures { OnOk result (Adds (flat_map (locations_of_number file.now) order.now.numbers.items) locations.old locations.new) }
 {
     renumbering_keeps_parts();
+    added_parts_join();
     for number in order.numbers() {
         let record = record_at(file, *number as usize);
         add_head_locations(locations, &record.head)?;
@@ -70,6 +73,7 @@ pub(crate) fn locations_in<'a>(
     requires placed { ArePlaced (length file.now.records) order.now.numbers.items order.now.places.items }
     ensures { IfOk result (AreLocated file.now (locations_used file.now order.now.numbers.items)) }
 {
+    added_parts_join();
     let mut locations = WrittenLocations::new(alloc, &file.locations)?;
     add_record_locations(&mut locations, file, order)?;
     locations.add(file.root.location)?;
@@ -140,6 +144,8 @@ pub(crate) fn push_locations(
     requires can { All CanSpellLocation locations.now.section.now }
     ensures { OnOk result (text.new.items ≡ text.old.items ++ lines_text (location_lines (locations_of locations.now))) }
 {
+    sections_hold();
+    added_parts_join();
     let section = locations.section();
     push_heading(
         text,

@@ -44,6 +44,9 @@ returns-then-is_marked c =
       written = c.roots_are_written.ensures;
       determined = λ h ns. c.results_are_determined.ensures (removal_step h ns);
       copies = c.texts_stand_for_roots.ensures.copies;
+      subtrees = c.subtrees_stand.ensures;
+      sections = c.sections_hold.ensures;
+      numbers = c.numbers_are_places.ensures;
     } in
     let goes : removed f.root.number ≡ true = ap (λ (l : List Bool). mark_of l f.root.number) (sym c.deref.ensures.value) ∙ sym c.if-is_marked.ensures in
     IfOk-weaker (λ (r : Removal). RootGoes f before.places.items r.text.items r.origins r.modified r.removed)
@@ -70,6 +73,9 @@ returns-else-is_marked c =
       written = c.roots_are_written.ensures;
       determined = λ h ns. c.results_are_determined.ensures (removal_step h ns);
       copies = c.texts_stand_for_roots.ensures.copies;
+      subtrees = c.subtrees_stand.ensures;
+      sections = c.sections_hold.ensures;
+      numbers = c.numbers_are_places.ensures;
     } in
     let stays : removed f.root.number ≡ false = ap (λ (l : List Bool). mark_of l f.root.number) (sym c.deref.ensures.value) ∙ sym c.if-is_marked.ensures in
     IfOk-weaker (λ (r : Removal). RootStays f (mark_of c.deref-else-is_marked.result.now) before.places.items r.text.items r.origins r.modified r.removed)

@@ -21,7 +21,7 @@ add_use_locations-requires-clause-within c =
 
 pub loop-number-preserved : goal.loop-number-preserved
 loop-number-preserved c =
-    adds-record c.args.file.now c.numbers-number-items.result.now c.loop-number.number-index c.record_at-record.result.now c.args.locations.now c.loop-number.locations c.add_head_locations.new.locations c.add_use_locations.new.locations
+    adds-record c.added_parts_join.ensures c.args.file.now c.numbers-number-items.result.now c.loop-number.number-index c.record_at-record.result.now c.args.locations.now c.loop-number.locations c.add_head_locations.new.locations c.add_use_locations.new.locations
     c.loop-number-test.true c.record_at-record.ensures c.loop-number.invariant (c.in_ok-add_head_locations.ensures c.args.file.now.version) c.as_slice.result.now c.as_slice.ensures c.in_ok-add_use_locations.ensures
 
 pub add_use_locations-requires-clause-numbering : goal.add_use_locations-requires-clause-numbering

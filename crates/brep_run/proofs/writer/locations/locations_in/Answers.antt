@@ -3,7 +3,6 @@ use Rattle.std.specs.Prelude.{fold, map}
 use Rattle.std.specs.List.{flat_map}
 use Rattle.location_table.specs.Words.{word_of_place}
 use Rattle.written_locations.specs.Further.{with_word}
-use Rattle.written_locations.proofs.Adding.{adds-more}
 use Rattle.brep_run.specs.Completion.{locations_of_number, locations_used}
 use Rattle.brep_run.proofs.writer.locations.locations_in.Goals as goal
 
@@ -11,7 +10,7 @@ pub returns : goal.returns
 returns c =
     let f = c.args.file.now in
     let numbers = c.args.order.now.numbers.items in
-    let all = adds-more (flat_map (locations_of_number f) numbers) (f.root.location ∷ []) c.in_ok-locations.locations c.add_record_locations.new.locations c.add.new.self
+    let all = c.added_parts_join.ensures.joined (flat_map (locations_of_number f) numbers) (f.root.location ∷ []) c.in_ok-locations.locations c.add_record_locations.new.locations c.add.new.self
     c.in_ok-add_record_locations.ensures c.in_ok-add.ensures in
     let section = c.in_ok-locations.ensures.section in
     record {
