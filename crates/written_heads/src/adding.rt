@@ -7,8 +7,8 @@ ghost use Rattle.written_locations.specs.Added.{IsNumbering, Adds};
 
 use std::alloc::AllocError;
 use tshape_data::{EdgeRep, Head, Payload, PointRep};
-use written_locations::laws::added_parts_join;
 use written_locations::WrittenLocations;
+use written_locations::laws::added_parts_join;
 
 /// The location of a vertex's representation.
 fn point_location(point: &PointRep) -> u32
