@@ -94,7 +94,7 @@ module _ (turns : TurnsCompose) (group : WordsAreAGroup) where
 
   -- the results of a use from its relative results
   pub use-rewritten : (s : Step) (c : Context) (v : Use) (parts : List Use) → IsWord c.word → IsWord v.word → Rewrites s (inside c v) (bare v.tree) parts → Rewrites s c v (map (carried v.turn v.word) parts)
-  use-rewritten s c v parts h k r = (r.0, results-relative s r.0 c v.turn v.word v.tree h k ∙ ap (all_carried v.turn v.word) r.1)
+  use-rewritten s c v parts h k r = (r.0, results-relative turns group s r.0 c v.turn v.word v.tree h k ∙ ap (all_carried v.turn v.word) r.1)
 
   -- the same where the demands are told by other things, as numbered uses
   all-rewritten-by : {A : Type 0} (s : Step) (c : Context) (g : A → Use) (f : A → List Use) (xs : List A) → ((a : A) → Contains xs a → Rewrites s c (g a) (f a)) →
