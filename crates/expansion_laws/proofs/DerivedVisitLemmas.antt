@@ -5,8 +5,9 @@ use Rattle.std.proofs.lemmas.List.Elements.{Contains-append_left, Contains-appen
 use Rattle.lists.proofs.Members.{Contains-cases, Contains-here, Contains-none, Contains-there}
 use Rattle.location_words.specs.declared.pair.Pair.{Pair}
 use Rattle.location_words.specs.Pairs.{inverse}
-use Rattle.location_words.proofs.WordLaws.{IsWord-mul}
+use Rattle.location_words.specs.Laws.{WordsAreAGroup}
 use Rattle.orientation.specs.declared.turn.Turn.TheVariants.{Forward}
+use Rattle.orientation.specs.Laws.{TurnsCompose}
 use Rattle.expansion_laws.specs.Trees.{Tree, Use, uses}
 use Rattle.expansion_laws.specs.Contexts.{Context, inside, bare}
 use Rattle.expansion_laws.specs.Requests.{Request, remove, replace, match_of}
@@ -18,7 +19,7 @@ use Rattle.expansion_laws.specs.DerivedVisits.{visits_of, visits_of_all, VisitsA
 use Rattle.expansion_laws.proofs.VisitLemmas.{inside-bare}
 use Rattle.expansion_laws.proofs.AlikeLemmas.{AlikeAll, alike-onward, alike-new, alike-find}
 
-module _ (s : Step) where
+module _ (turns : TurnsCompose) (group : WordsAreAGroup) (s : Step) where
   -- the demands of a visit by its match
   entered-asked : (x : Tree) (here : Context) → match_of s.requests x here ≡ None → is_entered s x ≡ true → demands s x here ≡ uses x
   entered-asked x here m e = ap (demands_by s x here) m ∙ ap (λ b. if b then uses x else []) e
@@ -36,18 +37,18 @@ module _ (s : Step) where
   onward-demands : (c : Context) (u : Use) (place : Option (List Pair)) (by : Use) →
       AlikeAll c (inside c u) (onward s u.tree (new_use c u place by)) (onward s u.tree (new_use (inside c u) (bare u.tree) place by))
   onward-demands c u None by =
-      alike-onward c (inside c u) s u.tree u.turn Forward u.word [] by (alike-new c (inside c u) u (bare u.tree) None by (sym (inside-bare (inside c u) u.tree (IsWord-mul c.word u.word))))
+      (alike-onward turns group) c (inside c u) s u.tree u.turn Forward u.word [] by ((alike-new turns group) c (inside c u) u (bare u.tree) None by (sym ((inside-bare turns group) (inside c u) u.tree (group.product_is_word c.word u.word))))
   onward-demands c u (Some place) by =
-      alike-onward c (inside c u) s u.tree u.turn Forward (inverse c.word) (inverse (inside c u).word) by
-      (alike-new c (inside c u) u (bare u.tree) (Some place) by (sym (inside-bare (inside c u) u.tree (IsWord-mul c.word u.word))))
+      (alike-onward turns group) c (inside c u) s u.tree u.turn Forward (inverse c.word) (inverse (inside c u).word) by
+      ((alike-new turns group) c (inside c u) u (bare u.tree) (Some place) by (sym ((inside-bare turns group) (inside c u) u.tree (group.product_is_word c.word u.word))))
 
   demands-onward : (c : Context) (u : Use) (place : Option (List Pair)) (by : Use) →
       AlikeAll (inside c u) c (onward s u.tree (new_use (inside c u) (bare u.tree) place by)) (onward s u.tree (new_use c u place by))
   demands-onward c u None by =
-      alike-onward (inside c u) c s u.tree Forward u.turn [] u.word by (alike-new (inside c u) c (bare u.tree) u None by (inside-bare (inside c u) u.tree (IsWord-mul c.word u.word)))
+      (alike-onward turns group) (inside c u) c s u.tree Forward u.turn [] u.word by ((alike-new turns group) (inside c u) c (bare u.tree) u None by ((inside-bare turns group) (inside c u) u.tree (group.product_is_word c.word u.word)))
   demands-onward c u (Some place) by =
-      alike-onward (inside c u) c s u.tree Forward u.turn (inverse (inside c u).word) (inverse c.word) by
-      (alike-new (inside c u) c (bare u.tree) u (Some place) by (inside-bare (inside c u) u.tree (IsWord-mul c.word u.word)))
+      (alike-onward turns group) (inside c u) c s u.tree Forward u.turn (inverse (inside c u).word) (inverse c.word) by
+      ((alike-new turns group) (inside c u) c (bare u.tree) u (Some place) by ((inside-bare turns group) (inside c u) u.tree (group.product_is_word c.word u.word)))
 
   -- a pair that is one pair leads where the other does
   same-visit : (x y : Tree) (here there : Context) → ◌≡◌ {A = Tree × Context} (x, here) (y, there) → LeadsTo s x here y there
@@ -79,7 +80,7 @@ module _ (s : Step) where
       | inl e ↦ same-visit u.tree y (inside c u) there e
       | inr k ↦
           (let one = leads-of-all d y there k in
-          let v = alike-find c (inside c u) (onward-demands c u r.place by) one.0 one.1 in
+          let v = (alike-find turns group) c (inside c u) (onward-demands c u r.place by) one.0 one.1 in
           onto v.0 (subst (λ l. Contains l v.0) (sym (replaced-asked u.tree (inside c u) r by m f)) v.1)
           (leads-as v.0.tree one.0.tree y (inside (inside c u) v.0) (inside c one.0) there (sym v.2) (sym v.3) one.2))
     ]
@@ -120,7 +121,7 @@ module _ (s : Step) where
       Contains-there (u.tree, inside c u) (y, there) (visits_of_all d) (w.2 (y, there) (go (inside c u) v w.0 w.1 refl refl))
   visited-below c u a (removed r m f) v n go = absurd (Contains-none v (subst (λ l. Contains l v) (removed-asked u.tree (inside c u) r m f) n))
   visited-below {y = y} {there = there} c u a (replaced r by m f d) v n go =
-      let at = alike-find (inside c u) c (demands-onward c u r.place by) v (subst (λ l. Contains l v) (replaced-asked u.tree (inside c u) r by m f) n) in
+      let at = (alike-find turns group) (inside c u) c (demands-onward c u r.place by) v (subst (λ l. Contains l v) (replaced-asked u.tree (inside c u) r by m f) n) in
       let w = all-visited d at.0 at.1 in
       Contains-there (u.tree, inside c u) (y, there) (visits_of_all d) (w.2 (y, there) (go c at.0 w.0 w.1 (sym at.2) (sym at.3)))
 
@@ -130,5 +131,5 @@ module _ (s : Step) where
       visited-below c u a d v (subst (λ h. Contains (demands s u.tree h) v) (sym f) (subst (λ z. Contains (demands s z here) v) (sym e) m))
       (λ c' w b d' e' f'. visited-of l c' w b d' e' (f' ∙ ap (λ h. inside h v) f))
 
-pub visits-derived : (s : Step) → VisitsAreDerived s
-visits-derived s c u a d x here = (λ l. visited-of s l c u a d refl refl, leads-of s d x here)
+pub visits-derived : TurnsCompose → WordsAreAGroup → (s : Step) → VisitsAreDerived s
+visits-derived turns group s c u a d x here = (λ l. visited-of turns group s l c u a d refl refl, leads-of turns group s d x here)

@@ -12,8 +12,9 @@ use Rattle.orientation.specs.Turns.{turn_eq}
 use Rattle.location_words.specs.declared.pair.Pair.{Pair}
 use Rattle.location_words.specs.Pairs.{pairs_eq}
 use Rattle.location_words.specs.Equal.{pairs_decide}
-use Rattle.location_words.proofs.WordLaws.{IsWord-mul}
+use Rattle.location_words.specs.Laws.{WordsAreAGroup}
 use Rattle.graph_walks.specs.Walks.{itself, along}
+use Rattle.orientation.specs.Laws.{TurnsCompose}
 use Rattle.expansion_laws.specs.Trees.{Tree, Use, uses}
 use Rattle.expansion_laws.specs.Equality.{tree_eq}
 use Rattle.expansion_laws.specs.Measures.{subtrees}
@@ -143,7 +144,8 @@ key-of-match s x here k i =
     ap (λ z. match_of s.requests z (context_of k)) tree ∙ sym (match-same s x here (context_of k) (same-for-key s x here k i))
 
 -- ---- the keys of a step
-module _ (s : Step) (n : ℕ) (root : Use) (whole : is_whole s n root.tree (inside at_root root) ≡ true) (ranked : is_ranked s n root.tree ≡ true) where
+module _ (turns : TurnsCompose) (group : WordsAreAGroup) (s : Step) (n : ℕ) (root : Use)
+    (whole : is_whole s n root.tree (inside at_root root) ≡ true) (ranked : is_ranked s n root.tree ≡ true) where
   abbrev key_at : Tree × Context → Key
   key_at v = key_within s n v.0 v.1
 
@@ -156,7 +158,7 @@ module _ (s : Step) (n : ℕ) (root : Use) (whole : is_whole s n root.tree (insi
   key-listed : (x : Tree) (here : Context) → IsVisit s root x here → Contains (keys_listed s n root) (key_within s n x here)
   key-listed x here v =
       once-has key_eq key_eq-same key_eq-itself (map key_at all_visits) (key_within s n x here)
-      (Contains-map key_at (x, here) all_visits (whole-listed s v n whole))
+      (Contains-map key_at (x, here) all_visits ((whole-listed turns group) s v n whole))
 
   -- a listed key is that of a visit
   listed-key : (k : Key) → Contains (keys_listed s n root) k → (x : Tree) × (here : Context) × IsVisit s root x here × IsKey s x here k
@@ -173,7 +175,7 @@ module _ (s : Step) (n : ℕ) (root : Use) (whole : is_whole s n root.tree (insi
 
   -- ---- the relative results of a key are those of each of its visits
   visit-told : (x : Tree) (here : Context) → IsVisit s root x here → (a : List Use) × (results_within s (suc n) here (bare x) ≡ Some a)
-  visit-told x here v = whole-told s v n whole (IsWord-mul [] root.word)
+  visit-told x here v = (whole-told turns group) s v n whole (group.product_is_word [] root.word)
 
   visit-parts : (x : Tree) (here : Context) (k : Key) (results : List Use) → IsVisit s root x here → IsKey s x here k → RelativeResults s x here results → parts_within s n k ≡ results
   visit-parts x here k results v i r =
@@ -257,7 +259,7 @@ module _ (s : Step) (n : ℕ) (root : Use) (whole : is_whole s n root.tree (insi
       ]
 
   root-told : (r : List Use) × (results_within s (suc n) at_root root ≡ Some r)
-  root-told = let a = visit-told root.tree (inside at_root root) visit-itself in use-there s (suc n) at_root root a.0 a.1
+  root-told = let a = visit-told root.tree (inside at_root root) visit-itself in (use-there turns group) s (suc n) at_root root a.0 a.1
 
   word-listed : (w : List Pair) → IsWordMade s root w → Contains (words_listed s n root) w
   word-listed w (inl h) =
@@ -296,8 +298,8 @@ module _ (s : Step) (n : ℕ) (root : Use) (whole : is_whole s n root.tree (insi
     words_made = λ w. (word-listed w, listed-word w);
   }
 
-pub measures-by-lists : (s : Step) → MeasuresByLists s
-measures-by-lists s n root whole ranked = measures-listed s n root whole ranked
+pub measures-by-lists : TurnsCompose → WordsAreAGroup → (s : Step) → MeasuresByLists s
+measures-by-lists turns group s n root whole ranked = measures-listed turns group s n root whole ranked
 
 -- ---- the trees that are held
 held-there : (records : List Tree) (roots : List Use) (x : Tree) → IsHeldTree records roots x → Contains (records ++ flat_map (λ r. subtrees r.tree) roots) x

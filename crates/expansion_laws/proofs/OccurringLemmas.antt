@@ -4,7 +4,8 @@ use Rattle.std.specs.Prelude.{◌≡◌, ℕ, zero, suc, Bool, true, false, if�
 use Rattle.std.proofs.lemmas.List.Elements.{Contains-append_left, Contains-append_right}
 use Rattle.lists.proofs.Members.{Contains-cases, Contains-here, Contains-map, Contains-map_cases, Contains-none}
 use Rattle.location_words.specs.Pairs.{IsWord}
-use Rattle.location_words.proofs.WordLaws.{IsWord-mul}
+use Rattle.location_words.specs.Laws.{WordsAreAGroup}
+use Rattle.orientation.specs.Laws.{TurnsCompose}
 use Rattle.expansion_laws.specs.Trees.{Tree, Use, origin, uses, tree_of}
 use Rattle.expansion_laws.specs.Measures.{OccursIn}
 use Rattle.expansion_laws.specs.Contexts.{Context, at_root, inside, bare}
@@ -64,14 +65,14 @@ same-trees a b y e h =
     let m = Contains-map_cases (λ (v : Use). v.tree) h.0.tree a (subst (λ l. Contains l h.0.tree) (sym e) (Contains-map (λ (v : Use). v.tree) h.0 b h.1)) in
     (m.0, m.1, subst (λ t. OccursIn y t) (sym m.2) h.2)
 
-module _ (s : Step) where
+module _ (turns : TurnsCompose) (group : WordsAreAGroup) (s : Step) where
   -- in the relative results of a visit stand those of the visits of its demands
   of-demand : (n : ℕ) (x : Tree) (here : Context) (results : List Use) (v : Use) → IsWord here.word → results_within s n here (bare x) ≡ Some results → Contains (demands s x here) v →
       (b : List Use) × Rewrites s here v b × ((y : Tree) → OccursInOne y b → OccursInOne y results)
   unfolding results_within OccursInOne
   of-demand zero x here results v h e m = absurd cc
   of-demand (suc n) x here results v h e m =
-      let at = mapped-some (gathered s x here) (all_results (λ v. results_within s n here v) (demands s x here)) results (sym (visit-next s n x here h) ∙ e) in
+      let at = mapped-some (gathered s x here) (all_results (λ v. results_within s n here v) (demands s x here)) results (sym ((visit-next turns group) s n x here h) ∙ e) in
       let one = all-each (λ v. results_within s n here v) (demands s x here) at.0 at.1 v m in
       (one.0, (n, one.1), λ y o. subst (λ l. OccursInOne y l) at.2 (gathered-has s x here (match_of s.requests x here) v at.0 o.0 y m (one.2 o.0 o.1) o.2))
 
@@ -79,13 +80,13 @@ module _ (s : Step) where
       Rewrites s c u a → RelativeResults s y there parts → (v : Use) → Contains parts v → OccursInOne v.tree a
   unfolding OccursInOne
   occurs-along {x = x} {here = here} itself h c u a parts e f r q v m =
-      let alike = rewrites-alike s c here u (bare x) a e (f ∙ sym (inside-bare here x h)) r in
+      let alike = (rewrites-alike turns group) s c here u (bare x) a e (f ∙ sym ((inside-bare turns group) here x h)) r in
       let same : alike.0 ≡ parts = Rewrites-one s here (bare x) alike.0 parts alike.1 q in
       same-trees a alike.0 v.tree alike.2 (v, subst (λ l. Contains l v) (sym same) m, subtrees-itself v.tree)
   occurs-along {x = x} {here = here} (onto w n l) h c u a parts e f r q v m =
-      let alike = rewrites-alike s c here u (bare x) a e (f ∙ sym (inside-bare here x h)) r in
+      let alike = (rewrites-alike turns group) s c here u (bare x) a e (f ∙ sym ((inside-bare turns group) here x h)) r in
       let one = of-demand alike.1.0 x here alike.0 w h alike.1.1 n in
-      same-trees a alike.0 v.tree alike.2 (one.2 v.tree (occurs-along l (IsWord-mul here.word w.word) here w one.0 parts refl refl one.1 q v m))
+      same-trees a alike.0 v.tree alike.2 (one.2 v.tree (occurs-along l (group.product_is_word here.word w.word) here w one.0 parts refl refl one.1 q v m))
 
 in-root : (results : List Use) (y : Tree) → OccursInOne y results → OccursIn y (root_of results).tree
 unfolding OccursInOne
@@ -93,6 +94,6 @@ in-root [] y h = absurd (Contains-none h.0 h.1)
 in-root (r ∷ []) y h = elim (Contains-cases r h.0 [] h.1) [ inl e ↦ subst (λ (v : Use). OccursIn y v.tree) (sym e) h.2 | inr n ↦ absurd (Contains-none h.0 n) ]
 in-root (r ∷ q ∷ rest) y h = subtrees-use (tree_of 0 (r ∷ q ∷ rest)) h.0 y (subst (λ l. Contains l h.0) (sym (list_of-uses_of (r ∷ q ∷ rest))) h.1) h.2
 
-pub results-occur : (s : Step) → VisitsResultsOccur s
-results-occur s root new x here parts v st visit q m =
-    subst (λ (n : Use). OccursIn v.tree n.tree) (sym st.2) (in-root st.0 v.tree (occurs-along s visit (IsWord-mul [] root.word) at_root root st.0 parts refl refl st.1 q v m))
+pub results-occur : TurnsCompose → WordsAreAGroup → (s : Step) → VisitsResultsOccur s
+results-occur turns group s root new x here parts v st visit q m =
+    subst (λ (n : Use). OccursIn v.tree n.tree) (sym st.2) (in-root st.0 v.tree (occurs-along turns group s visit (group.product_is_word [] root.word) at_root root st.0 parts refl refl st.1 q v m))

@@ -25,6 +25,9 @@ ghost use Rattle.expansion_laws.specs.Subtrees.{SubtreesStand};
 ghost use Rattle.expansion_laws.specs.Examples.{ExamplesComeOut};
 ghost use Rattle.expansion_laws.specs.RewritingLaws.{IsLeast, IsDetermined, RankedUsesHaveResults, ResultsAreCarried, ResultsDependOnKeyAlone, DemandsAreEdges, ResultsAreGathered, VisitsAreListed, KeysStandForVisits};
 
+use location_words::laws::words_are_a_group;
+use orientation::laws::{signs_and_names_tell, turns_compose};
+
 /// The test of two trees tells whether they are one.
 pub fn equal_trees_tell()
     ensures { (x y : Tree) → (tree_eq x y ≡ true) ↔ (x ≡ y) }
@@ -68,7 +71,10 @@ pub fn ranked_uses_have_results()
 /// The results of a use are the relative results of its visit, carried by the use.
 pub fn results_are_carried()
     ensures { (s : Step) → ResultsAreCarried s }
-{}
+{
+    turns_compose();
+    words_are_a_group();
+}
 
 /// The relative results of a visit depend on its key alone.
 pub fn results_depend_on_key_alone()
@@ -83,7 +89,10 @@ pub fn demands_are_edges()
 /// The relative results of a visit are gathered from those of the visits that it asks for.
 pub fn results_are_gathered()
     ensures { (s : Step) → ResultsAreGathered s }
-{}
+{
+    turns_compose();
+    words_are_a_group();
+}
 
 /// The lists of visits hold what a visit leads to.
 pub fn visits_are_listed()
@@ -103,7 +112,9 @@ pub fn examples_come_out()
 /// Where every replace fits, the results of a use have its kind.
 pub fn results_have_the_kind()
     ensures { (s : Step) → ResultsHaveTheKind s }
-{}
+{
+    signs_and_names_tell();
+}
 
 /// What each case of the rule keeps holds of all results and of the new root.
 pub fn rewriting_keeps()
@@ -118,22 +129,32 @@ pub fn origins_stay()
 /// Where every replace fits, kinds stay in order.
 pub fn kinds_stay_in_order()
     ensures { (s : Step) → KindsStayInOrder s }
-{}
+{
+    signs_and_names_tell();
+}
 
 /// Words stay words, over the datums that a step is given.
 pub fn words_stay()
     ensures { (s : Step) (among : ℕ → Bool) → WordsStay s (Passes among) }
-{}
+{
+    words_are_a_group();
+}
 
 /// The visits of a derivation are those that the visit of its use leads to.
 pub fn visits_are_derived()
     ensures { (s : Step) → VisitsAreDerived s }
-{}
+{
+    turns_compose();
+    words_are_a_group();
+}
 
 /// The results of each visit stand in the new root.
 pub fn results_of_visits_occur()
     ensures { (s : Step) → VisitsResultsOccur s }
-{}
+{
+    turns_compose();
+    words_are_a_group();
+}
 
 /// Where a tree's live requests are unconditional, each edge is the tree of a demand at every context.
 pub fn edges_are_demands()
@@ -154,7 +175,10 @@ pub fn cycles_are_determined()
 /// A list of visits beyond which nothing is asked has them all, and they have results.
 pub fn whole_lists_hold_all()
     ensures { (s : Step) → WholeListsHoldAll s }
-{}
+{
+    turns_compose();
+    words_are_a_group();
+}
 
 /// Reach and ranks among numbers that stand for trees are those among the trees.
 pub fn numbers_carry()
@@ -207,7 +231,10 @@ pub fn measures_are_listed()
     ensures lists { (s : Step) → MeasuresByLists s }
     ensures held { HeldTreesByLists }
     ensures determined { (s : Step) (root : Use) → MeasuresAreDetermined s root }
-{}
+{
+    turns_compose();
+    words_are_a_group();
+}
 
 /// Worked measures: keys, words, uses and trees of steps.
 pub fn measures_come_out()

@@ -3,7 +3,7 @@ use Rattle.expansion_laws.proofs.MeasureLemmas.{measures-by-lists, held-by-lists
 use Rattle.expansion_laws.proofs.laws.measures_are_listed.Goals as goal
 
 pub returns-clause-lists : goal.returns-clause-lists
-returns-clause-lists c = measures-by-lists
+returns-clause-lists c = measures-by-lists c.turns_compose.ensures c.words_are_a_group.ensures
 
 pub returns-clause-held : goal.returns-clause-held
 returns-clause-held c = held-by-lists
