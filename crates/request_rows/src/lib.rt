@@ -2,6 +2,6 @@
 #![tactic(auto)]
 
 #[cfg(test)]
-mod requests;
-#[cfg(test)]
 mod same;
+#[cfg(test)]
+mod tables_of_requests;
