@@ -82,10 +82,7 @@ fn takes_targets_that_fit(rt: HostRuntime) -> Result<(), Fail> {
     let one = load_vertex(&mut pool, 1)?;
     let two = load_vertex(&mut pool, 2)?;
     let empty = pool.wrap(&[]).ok().ok_or("empty")?;
-    let both = pool
-        .wrap(&[use_of(one), use_of(two)])
-        .ok()
-        .ok_or("both")?;
+    let both = pool.wrap(&[use_of(one), use_of(two)]).ok().ok_or("both")?;
     let mixed = pool
         .wrap(&[use_of(one), use_of(empty)])
         .ok()
@@ -95,7 +92,11 @@ fn takes_targets_that_fit(rt: HostRuntime) -> Result<(), Fail> {
     let misfit = Err(AddFault::KindMismatch);
     same(&rt, &asked(t, &pool, one, None, None, Some(two)), &Ok(()));
     same(&rt, &asked(t, &pool, one, None, None, Some(both)), &Ok(()));
-    same(&rt, &asked(t, &pool, both, None, None, Some(empty)), &Ok(()));
+    same(
+        &rt,
+        &asked(t, &pool, both, None, None, Some(empty)),
+        &Ok(()),
+    );
     same(&rt, &asked(t, &pool, one, None, None, Some(empty)), &misfit);
     same(&rt, &asked(t, &pool, one, None, None, Some(mixed)), &misfit);
     same(&rt, &asked(t, &pool, both, None, None, Some(one)), &misfit);
