@@ -1,5 +1,6 @@
 //! Which targets fit, and which requests of a node count.
 ghost use Rattle.std.specs.Prelude.{◌≡◌, ◌<◌, ◌≤◌, IfOk, IfSome, length};
+ghost use Rattle.shape_pool.specs.Rows.{AllHeld};
 
 use crate::same::same;
 use location_words::WordId;
@@ -28,6 +29,16 @@ fn load_vertex(pool: &mut Pool, origin: u32) -> Result<NodeId, Fail>
         return Err(Fail::from("loaded"));
     }
     let id = pool.load(Kind::Ve, origin, &[]).ok().ok_or("load")?;
+    Ok(id)
+}
+
+/// Wraps uses of held nodes in a compound.
+fn wrap(pool: &mut Pool, uses: &[UseOf]) -> Result<NodeId, Fail>
+    requires { AllHeld pool.old uses.now }
+    ensures held { IfOk result (λ id. id.0 < length pool.new) }
+    ensures grows { length pool.old ≤ length pool.new }
+{
+    let id = pool.wrap(uses).ok().ok_or("wrap")?;
     Ok(id)
 }
 
@@ -81,12 +92,9 @@ fn takes_targets_that_fit(rt: HostRuntime) -> Result<(), Fail> {
     let mut pool = Pool::new(rt.alloc())?;
     let one = load_vertex(&mut pool, 1)?;
     let two = load_vertex(&mut pool, 2)?;
-    let empty = pool.wrap(&[]).ok().ok_or("empty")?;
-    let both = pool.wrap(&[use_of(one), use_of(two)]).ok().ok_or("both")?;
-    let mixed = pool
-        .wrap(&[use_of(one), use_of(empty)])
-        .ok()
-        .ok_or("mixed")?;
+    let empty = wrap(&mut pool, &[])?;
+    let both = wrap(&mut pool, &[use_of(one), use_of(two)])?;
+    let mixed = wrap(&mut pool, &[use_of(one), use_of(empty)])?;
     let mut table = RequestTable::new(rt.alloc());
     let t = &mut table;
     let misfit = Err(AddFault::KindMismatch);
