@@ -6,7 +6,7 @@ use Rattle.std.proofs.lemmas.Bool.{cases_Bool, or_cases, eqb-true}
 use Rattle.std.proofs.lemmas.Bool.Decides.{nat_tests}
 use Rattle.brep_tokens.specs.Bytes.{is_digit}
 use Rattle.brep_tokens.specs.Forms.{after_digits, is_decimal, is_digits, is_exponent, is_fraction, is_unsigned, starts_digit}
-use Rattle.brep_tokens.specs.Grammar.{AreDigits, IsDecimal, IsMantissa, IsMark, MayBeDigits, MayBeExponent, MayBeMinus, MayBeSign}
+use Rattle.brep_tokens.specs.Grammar.{AreDigits, IsDecimalByGrammar, IsMantissa, IsMark, MayBeDigits, MayBeExponent, MayBeMinus, MayBeSign}
 use Rattle.brep_tokens.proofs.NumberForms.{and_left, and_right}
 
 -- ---- what passes the test has the parts
@@ -124,7 +124,7 @@ unsigned_is : (text : List ℕ) → is_unsigned text ≡ true → IsUnsigned tex
 unsigned_is [] is = absurd cc
 unsigned_is (b ∷ bs) is = unsigned_if (b == 46) b bs refl is
 
-decimal_if : (x : Bool) (b : ℕ) (bs : List ℕ) → (b == 45) ≡ x → (if x then is_unsigned bs else is_unsigned (b ∷ bs)) ≡ true → IsDecimal (b ∷ bs)
+decimal_if : (x : Bool) (b : ℕ) (bs : List ℕ) → (b == 45) ≡ x → (if x then is_unsigned bs else is_unsigned (b ∷ bs)) ≡ true → IsDecimalByGrammar (b ∷ bs)
 decimal_if true b bs e is =
     let has = unsigned_is bs is in
     record {
@@ -148,7 +148,7 @@ decimal_if false b bs e is =
       spelled = has.split;
     }
 
-pub decimal_parts : (text : List ℕ) → is_decimal text ≡ true → IsDecimal text
+pub decimal_parts : (text : List ℕ) → is_decimal text ≡ true → IsDecimalByGrammar text
 unfolding is_decimal
 decimal_parts [] is = absurd cc
 decimal_parts (b ∷ bs) is = decimal_if (b == 45) b bs refl is
@@ -243,8 +243,8 @@ decimal_made : (minus rest : List ℕ) → MayBeMinus minus → is_unsigned rest
 decimal_made minus rest (inl none) is = subst (λ z. is_decimal (z ++ rest) ≡ true) (sym none) (unsigned_decimal rest is)
 decimal_made minus rest (inr one) is = subst (λ z. is_decimal (z ++ rest) ≡ true) (sym one) (minus_decimal rest is)
 
-pub decimal_passes : (text : List ℕ) → IsDecimal text → is_decimal text ≡ true
+pub decimal_passes : (text : List ℕ) → IsDecimalByGrammar text → is_decimal text ≡ true
 decimal_passes text is = subst (λ z. is_decimal z ≡ true) (sym is.spelled) (decimal_made is.minus (is.mantissa ++ is.exponent) is.is_minus (unsigned_passes is.mantissa is.exponent is.is_mantissa is.is_exponent))
 
-pub decimal_tells : (text : List ℕ) (b : Bool) → b ≡ is_decimal text → IsTrue b ↔ IsDecimal text
+pub decimal_tells : (text : List ℕ) (b : Bool) → b ≡ is_decimal text → IsTrue b ↔ IsDecimalByGrammar text
 decimal_tells text b e = (λ h. decimal_parts text (sym e ∙ h), λ h. e ∙ decimal_passes text h)

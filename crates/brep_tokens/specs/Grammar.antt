@@ -34,7 +34,8 @@ IsMantissa text =
 abbrev pub MayBeExponent : List ℕ → Type 0
 MayBeExponent text = (text ≡ []) ⊎ ((mark sign digits : List ℕ) × IsMark mark × MayBeSign sign × AreDigits digits × (text ≡ mark ++ (sign ++ digits)))
 
-pub record IsDecimal (text : List ℕ) : Type 0 where
+-- perhaps `-`, a mantissa, perhaps an exponent
+pub record IsDecimalByGrammar (text : List ℕ) : Type 0 where
   pub minus : List ℕ
   pub mantissa : List ℕ
   pub exponent : List ℕ

@@ -3,7 +3,7 @@ use Rattle.std.specs.Prelude.{◌≡◌, ◌↔◌, ◌≤◌, ◌<◌, ◌⊎�
 use Rattle.std.specs.List.{AllByRecursion, list_all}
 use Rattle.brep_tokens.specs.Bytes.{is_dark}
 use Rattle.brep_tokens.specs.Forms.{IsNumber, IsPower, IsUseSign, continuity_of, continuity_words, flag_of, flag_text, is_decimal, number_of, power_of, use_sign_of}
-use Rattle.brep_tokens.specs.Grammar.{IsDecimal}
+use Rattle.brep_tokens.specs.Grammar.{IsDecimalByGrammar}
 use Rattle.brep_tokens.specs.Scan.{coming, left_after, words_left}
 use Rattle.brep_tokens.specs.State.{Scan}
 use Rattle.brep_tokens.specs.Tokens.{Word, tokens_of}
@@ -17,7 +17,7 @@ pub record FormsAreExact : Type 0 where
   pub flags : (text : List ℕ) (b : Bool) → (flag_of text ≡ Some b) ↔ (text ≡ flag_text b)
   pub use_signs : (text : List ℕ) (s n : ℕ) → (use_sign_of text ≡ Some (s, n)) ↔ IsUseSign text s n
   pub continuities : (text : List ℕ) (k : ℕ) → (continuity_of text ≡ Some k) ↔ (slice_get continuity_words k ≡ Some text)
-  pub decimals : (text : List ℕ) → (is_decimal text ≡ true) ↔ IsDecimal text
+  pub decimals : (text : List ℕ) → (is_decimal text ≡ true) ↔ IsDecimalByGrammar text
 
 -- a scanner that was fed a whole text, before its first answer
 abbrev pub begun : List ℕ → Scan

@@ -1,6 +1,6 @@
 //! Tokens that spell a decimal.
 ghost use Rattle.brep_tokens.specs.Forms.{after_digits, is_decimal, is_digits, is_exponent, is_fraction, is_unsigned, starts_digit};
-ghost use Rattle.brep_tokens.specs.Grammar.{IsDecimal};
+ghost use Rattle.brep_tokens.specs.Grammar.{IsDecimalByGrammar};
 ghost use Rattle.std.specs.Prelude.{◌≡◌, ◌↔◌, IsTrue};
 
 use crate::bytes::digit;
@@ -73,7 +73,7 @@ fn unsigned(text: &[u8]) -> bool
 #[tactic(auto, unfolding(crate::specs::Forms::is_decimal))]
 pub fn decimal(text: &[u8]) -> bool
     ensures exact { result ≡ is_decimal text.now }
-    ensures spelled { IsTrue result ↔ IsDecimal text.now }
+    ensures spelled { IsTrue result ↔ IsDecimalByGrammar text.now }
 {
     match text {
         [] => false,
