@@ -18,14 +18,16 @@ module _ {X Y : Type 0} (f : X → Y) (ends : X → List X) (edges : Y → List 
   reach-carried itself h = itself
   reach-carried {x = x} (along y m r) h = along (f y) (there x y h m) (reach-carried r (stands.held x y h m))
 
-  reach-back : {z w : Y} → Reaches edges z w → (x : X) → is_held x ≡ true → f x ≡ z → (y : X) × Reaches ends x y × (f y ≡ w)
+  reach-back : {z w : Y} → Reaches edges z w → (x : X) → is_held x ≡ true → f x ≡ z →
+      (y : X) × Reaches ends x y × (f y ≡ w)
   reach-back itself x h e = (x, itself, e)
   reach-back (along y m r) x h e =
       let one = back x y h (subst (λ v. Contains (edges v) y) (sym e) m) in
       let rest = reach-back r one.0 (stands.held x one.0 h one.1) one.2 in
       (rest.0, along one.0 one.1 rest.1, rest.2)
 
-  walk-carried : (x : X) (walk : List X) → is_held x ≡ true → IsWalkFrom ends x walk → IsWalkFrom edges (f x) (map f walk)
+  walk-carried : (x : X) (walk : List X) → is_held x ≡ true → IsWalkFrom ends x walk →
+      IsWalkFrom edges (f x) (map f walk)
   walk-carried x [] h w = tt
   walk-carried x (y ∷ walk) h w = (there x y h w.0, walk-carried y walk (stands.held x y h w.0) w.1)
 
@@ -34,13 +36,15 @@ module _ {X Y : Type 0} (f : X → Y) (ends : X → List X) (edges : Y → List 
   walk-back [] x h w = ([], tt, refl)
   walk-back (z ∷ walk) x h w =
       let one = back x z h w.0 in
-      let rest = walk-back walk one.0 (stands.held x one.0 h one.1) (subst (λ v. IsWalkFrom edges v walk) (sym one.2) w.1) in
+      let rest = walk-back walk one.0 (stands.held x one.0 h one.1)
+      (subst (λ v. IsWalkFrom edges v walk) (sym one.2) w.1) in
       (one.0 ∷ rest.0, (one.1, rest.1), λ i. one.2 i ∷ rest.2 i)
 
   rank-carried : (x : X) (n : ℕ) → is_held x ≡ true → IsRank ends x n → IsRank edges (f x) n
   rank-carried x n h r = (
     (map f r.0.0, walk-carried x r.0.0 h r.0.1, length-map r.0.0 f ∙ r.0.2),
-    (λ walk w. let own = walk-back walk x h w in let a = r.1 own.0 own.1 in let b = length-map own.0 f in let e = ap length own.2 in
+    (λ walk w. let own = walk-back walk x h w in let a = r.1 own.0 own.1 in let b = length-map own.0 f in
+        let e = ap length own.2 in
         omega (arith, a, b, e)),
   )
 
@@ -49,7 +53,8 @@ module _ {X Y : Type 0} (f : X → Y) (ends : X → List X) (edges : Y → List 
       let own = walk-back r.0.0 x h r.0.1 in
       let b = length-map own.0 f in let e = ap length own.2 in (
         (own.0, own.1, omega (arith, b, e, r.0.2)),
-        (λ walk w. let a = r.1 (map f walk) (walk-carried x walk h w) in let d = length-map walk f in omega (arith, a, d)),
+        (λ walk w. let a = r.1 (map f walk) (walk-carried x walk h w) in let d = length-map walk f in
+            omega (arith, a, d)),
       )
 
   pub carries : Carries f ends edges is_held

@@ -5,8 +5,10 @@ use Rattle.std.specs.Prelude.{ℕ, List, [], ◌∷◌, Contains}
 use Rattle.lists.proofs.Members.{Contains-cases, Contains-here, Contains-none, Contains-reversed, Contains-there}
 use Rattle.graph_walks.specs.Graph.{ends_of}
 use Rattle.graph_walks.specs.Search.{IsOrderFrom}
-use Rattle.graph_walks.specs.Walks.{Reaches, itself, along, HasCycle, IsCycle, IsFirstCycle, IsFinishOrder, IsRank, enters, finds, closes}
-use Rattle.graph_walks.specs.Examples.{one_apart, OrdersComeOut, loop_apart, two_loops, CyclesComeOut, way_round, RanksComeOut}
+use Rattle.graph_walks.specs.Walks.{Reaches, itself, along, HasCycle, IsCycle, IsFirstCycle}
+use Rattle.graph_walks.specs.Walks.{IsFinishOrder, IsRank, enters, finds, closes}
+use Rattle.graph_walks.specs.Examples.{one_apart, OrdersComeOut, loop_apart, two_loops}
+use Rattle.graph_walks.specs.Examples.{CyclesComeOut, way_round, RanksComeOut}
 use Rattle.graph_walks.proofs.WalkLaws.{stays, no_cycle}
 use Rattle.graph_walks.proofs.DeterminedLemmas.{determined}
 use Rattle.graph_walks.proofs.RankLaws.{rank-next}
@@ -18,7 +20,8 @@ not-among : (y x : ℕ) (xs : List ℕ) → y ≢ x → (Contains xs x → ⊥) 
 not-among y x xs ne h m = elim (Contains-cases y x xs m) [ inl e ↦ ne e | inr k ↦ h k ]
 
 apart-finishes : IsFinishOrder (ends_of one_apart) (0 ∷ 1 ∷ [])
-apart-finishes = ((λ y m. m), not-among 1 0 [] (λ e. omega (arith, e)) (Contains-none 0), ((λ y m. m), Contains-none 1, tt))
+apart-finishes =
+    ((λ y m. m), not-among 1 0 [] (λ e. omega (arith, e)) (Contains-none 0), ((λ y m. m), Contains-none 1, tt))
 
 apart-reached : (x : ℕ) → Reaches (ends_of one_apart) 0 x → Contains (0 ∷ 1 ∷ []) x
 apart-reached x r = stays (ends_of one_apart) (0 ∷ 1 ∷ []) apart-finishes r (Contains-here 0 (1 ∷ []))
@@ -41,7 +44,8 @@ apart-order = record {
 }
 
 two-unreached : Reaches (ends_of one_apart) 0 2 → ⊥
-two-unreached r = not-among 0 2 (1 ∷ []) (λ e. omega (arith, e)) (not-among 1 2 [] (λ e. omega (arith, e)) (Contains-none 2))
+two-unreached r =
+    not-among 0 2 (1 ∷ []) (λ e. omega (arith, e)) (not-among 1 2 [] (λ e. omega (arith, e)) (Contains-none 2))
     (apart-reached 2 r)
 
 two-finishes : IsFinishOrder (ends_of one_apart) (0 ∷ 1 ∷ 2 ∷ [])
@@ -51,7 +55,11 @@ two-finishes = (
     | inr n ↦ absurd (Contains-none y n)
   ]),
   not-among 1 0 (2 ∷ []) (λ e. omega (arith, e)) (not-among 2 0 [] (λ e. omega (arith, e)) (Contains-none 0)),
-  ((λ y m. absurd (Contains-none y m)), not-among 2 1 [] (λ e. omega (arith, e)) (Contains-none 1), ((λ y m. m), Contains-none 2, tt)),
+  (
+    (λ y m. absurd (Contains-none y m)),
+    not-among 2 1 [] (λ e. omega (arith, e)) (Contains-none 1),
+    ((λ y m. m), Contains-none 2, tt),
+  ),
 )
 
 pub orders : OrdersComeOut

@@ -19,10 +19,12 @@ stop-node ends (start ∷ starts) = refl
 
 pub starts_node : (ends starts : List ℕ) → AreStarts ends starts → AreStarts ends (starts ++ length ends ∷ [])
 starts_node ends [] h = (omega arith, tt)
-starts_node ends (start ∷ starts) h = (let a = stop-node ends starts in omega (arith, a, h.0), starts_node ends starts h.1)
+starts_node ends (start ∷ starts) h =
+    (let a = stop-node ends starts in omega (arith, a, h.0), starts_node ends starts h.1)
 
 pub lists_node : (ends starts : List ℕ) → lists_of ends (starts ++ length ends ∷ []) ≡ lists_of ends starts ++ [] ∷ []
-lists_node ends [] = let none : length ends - length ends ≡ 0 = omega arith in ap (λ n. take n (drop (length ends) ends) ∷ []) none
+lists_node ends [] =
+    let none : length ends - length ends ≡ 0 = omega arith in ap (λ n. take n (drop (length ends) ends) ∷ []) none
 lists_node ends (start ∷ starts) = rw (stop-node ends starts, lists_node ends starts) refl
 
 -- ---- one more end
@@ -32,9 +34,11 @@ stop-end ends (start ∷ starts) end = omega arith
 
 pub starts_end : (ends starts : List ℕ) (end : ℕ) → AreStarts ends starts → AreStarts (ends ++ end ∷ []) starts
 starts_end ends [] end h = tt
-starts_end ends (start ∷ starts) end h = (let a = stop-end ends starts end in omega (arith, a, h.0), starts_end ends starts end h.1)
+starts_end ends (start ∷ starts) end h =
+    (let a = stop-end ends starts end in omega (arith, a, h.0), starts_end ends starts end h.1)
 
-with_end-last : (before : List (List ℕ)) (xs : List ℕ) (end : ℕ) → with_end (before ++ xs ∷ []) end ≡ before ++ (xs ++ end ∷ []) ∷ []
+with_end-last : (before : List (List ℕ)) (xs : List ℕ) (end : ℕ) →
+    with_end (before ++ xs ∷ []) end ≡ before ++ (xs ++ end ∷ []) ∷ []
 with_end-last [] xs end = refl
 with_end-last (b ∷ []) xs end = refl
 with_end-last (b ∷ c ∷ before) xs end = ap (λ l. b ∷ l) (with_end-last (c ∷ before) xs end)
@@ -47,7 +51,8 @@ lists_end ends (start ∷ []) end h =
     let rest = length-append (drop start ends) (end ∷ []) in
     let left = length-drop start ends in
     ap (λ l. take (length (ends ++ end ∷ []) - start) l ∷ []) (drop-append-le start ends (end ∷ []) h.0) ∙
-    ap (λ l. l ∷ []) (take_all (length (ends ++ end ∷ []) - start) (drop start ends ++ end ∷ []) (omega (arith, more, rest, left, h.0))) ∙
+    ap (λ l. l ∷ []) (take_all (length (ends ++ end ∷ []) - start) (drop start ends ++ end ∷ [])
+    (omega (arith, more, rest, left, h.0))) ∙
     ap (λ l. (l ++ end ∷ []) ∷ []) (sym (take_all (length ends - start) (drop start ends) (omega (arith, left))))
 lists_end ends (start ∷ next ∷ starts) end h =
     let within = stop-within ends (next ∷ starts) h.1 in
@@ -60,14 +65,16 @@ lists_end ends (start ∷ next ∷ starts) end h =
 
 pub adds_end : (ends starts : List ℕ) (end : ℕ) → AreStarts ends starts →
     AddsEnd (lists_of ends starts) (lists_of (ends ++ end ∷ []) starts) end
-adds_end ends starts end h = λ before xs e. lists_end ends starts end h ∙ ap (λ l. with_end l end) e ∙ with_end-last before xs end
+adds_end ends starts end h =
+    λ before xs e. lists_end ends starts end h ∙ ap (λ l. with_end l end) e ∙ with_end-last before xs end
 
 -- ---- a node's part
 -- where the ends of the node at a place stop
 abbrev pub stop_at : List ℕ → List ℕ → ℕ → ℕ
 stop_at ends starts x = slice_index_or starts (x + 1) (length ends)
 
-after-first : (ends : List ℕ) (start : ℕ) (starts : List ℕ) (x : ℕ) → stop_at ends (start ∷ starts) (suc x) ≡ stop_at ends starts x
+after-first : (ends : List ℕ) (start : ℕ) (starts : List ℕ) (x : ℕ) →
+    stop_at ends (start ∷ starts) (suc x) ≡ stop_at ends starts x
 after-first ends start starts x = let next : suc x + 1 ≡ suc (x + 1) = omega arith in
     ap (λ k. slice_index_or (start ∷ starts) k (length ends)) next
 
@@ -76,7 +83,8 @@ first-stop ends start [] = refl
 first-stop ends start (next ∷ starts) = refl
 
 pub part_within : (ends starts : List ℕ) (x : ℕ) → AreStarts ends starts → x < length starts →
-    (slice_index_or starts x 0 ≤ slice_index_or starts (x + 1) (length ends)) × (slice_index_or starts (x + 1) (length ends) ≤ length ends)
+    (slice_index_or starts x 0 ≤ slice_index_or starts (x + 1) (length ends)) ×
+    (slice_index_or starts (x + 1) (length ends) ≤ length ends)
 part_within ends [] x h lt = absurd (omega (arith, lt))
 part_within ends (start ∷ starts) zero h lt =
     let stop = first-stop ends start starts in let within = stop-within ends starts h.1 in
@@ -89,7 +97,9 @@ pub part_is : (ends starts : List ℕ) (x : ℕ) → x < length starts →
     ends_of (lists_of ends starts) x ≡ take (slice_index_or starts (x + 1) (length ends) - slice_index_or starts x 0)
     (drop (slice_index_or starts x 0) ends)
 part_is ends [] x lt = absurd (omega (arith, lt))
-part_is ends (start ∷ starts) zero lt = ap (λ stop. take (stop - start) (drop start ends)) (sym (first-stop ends start starts))
+part_is ends (start ∷ starts) zero lt =
+    ap (λ stop. take (stop - start) (drop start ends)) (sym (first-stop ends start starts))
 part_is ends (start ∷ starts) (suc x) lt =
     part_is ends starts x (omega (arith, lt)) ∙
-    ap (λ stop. take (stop - slice_index_or starts x 0) (drop (slice_index_or starts x 0) ends)) (sym (after-first ends start starts x))
+    ap (λ stop. take (stop - slice_index_or starts x 0) (drop (slice_index_or starts x 0) ends))
+    (sym (after-first ends start starts x))

@@ -4,9 +4,12 @@ use Rattle.std.specs.Prelude.{ℕ, zero, suc, ◌⊎◌, List, [], ◌∷◌, le
 use Rattle.graph_walks.specs.Walks.{IsRank, IsRankBound, IsFinishOrder, rank_over}
 use Rattle.std.proofs.Common.{take, drop, ◌++◌, slice_index_or, All, set}
 use Rattle.std.specs.Prelude.{reverse}
-use Rattle.std.proofs.lemmas.List.{reverse-append, take-append-drop, drop_more, take_more, get_or-set_same, get_or-set_other}
-use Rattle.std.proofs.lemmas.List.Elements.{Contains-append_left, Contains-append_right, All-set, All-contains, Contains-push_cases}
-use Rattle.lists.proofs.Members.{Contains-cases, Contains-first, Contains-here, Contains-none, Contains-reversed, Contains-there}
+use Rattle.std.proofs.lemmas.List.{reverse-append, take-append-drop, drop_more}
+use Rattle.std.proofs.lemmas.List.{take_more, get_or-set_same, get_or-set_other}
+use Rattle.std.proofs.lemmas.List.Elements.{Contains-append_left, Contains-append_right}
+use Rattle.std.proofs.lemmas.List.Elements.{All-set, All-contains, Contains-push_cases}
+use Rattle.lists.proofs.Members.{Contains-cases, Contains-first, Contains-here}
+use Rattle.lists.proofs.Members.{Contains-none, Contains-reversed, Contains-there}
 use Rattle.lists.proofs.Cases.{same_or_not}
 
 pub by_order : {P : Type 0} (m n : ℕ) → (m ≤ n → P) → (n ≤ m → P) → P
@@ -22,7 +25,8 @@ module _ {X : Type 0} (edges : X → List X) where
     | inr k ↦ (let a = reached rank ys y k in omega (arith, a))
   ]
 
-  greatest : (rank : X → ℕ) (ys : List X) → (rank_over rank ys ≡ 0) ⊎ ((y : X) × Contains ys y × (rank_over rank ys ≡ suc (rank y)))
+  greatest : (rank : X → ℕ) (ys : List X) → (rank_over rank ys ≡ 0) ⊎
+      ((y : X) × Contains ys y × (rank_over rank ys ≡ suc (rank y)))
   greatest rank [] = inl refl
   greatest rank (z ∷ ys) = elim (greatest rank ys) [
     | inl e ↦ inr (z, Contains-here z ys, omega (arith, e))
@@ -34,7 +38,8 @@ module _ {X : Type 0} (edges : X → List X) where
   pub rank-bound : (rank : X → ℕ) (x : X) → ((y : X) → Contains (edges x) y → IsRankBound edges y (rank y)) →
       IsRankBound edges x (rank_over rank (edges x))
   rank-bound rank x each [] w = omega arith
-  rank-bound rank x each (y ∷ walk) w = let a = each y w.0 walk w.1 in let b = reached rank (edges x) y w.0 in omega (arith, a, b)
+  rank-bound rank x each (y ∷ walk) w =
+      let a = each y w.0 walk w.1 in let b = reached rank (edges x) y w.0 in omega (arith, a, b)
 
   pub rank-next : (rank : X → ℕ) (x : X) → ((y : X) → Contains (edges x) y → IsRank edges y (rank y)) →
       IsRank edges x (rank_over rank (edges x))
@@ -56,7 +61,8 @@ module _ {X : Type 0} (edges : X → List X) where
   finish-later [] b o = o
   finish-later (x ∷ a) b o = finish-later a b o.2
 
-  pub ends-before : (order : List X) (k : ℕ) (d : X) → IsFinishOrder edges (reverse order) → k < length order → (y : X) →
+  pub ends-before : (order : List X) (k : ℕ) (d : X) → IsFinishOrder edges (reverse order) → k < length order →
+      (y : X) →
       Contains (edges (slice_index_or order k d)) y → Contains (take k order) y
   ends-before order k d o lt y m =
       let x : X = slice_index_or order k d in
@@ -66,33 +72,41 @@ module _ {X : Type 0} (edges : X → List X) where
       reverse-append (take k order) (x ∷ drop (k + 1) order) ∙
       ap (λ l. l ++ reverse (take k order)) (reverse-append (x ∷ []) (drop (k + 1) order)) in
       let last = finish-later (reverse (drop (k + 1) order)) (x ∷ reverse (take k order))
-      (subst (IsFinishOrder edges) (turned ∙ push-through (reverse (drop (k + 1) order)) x (reverse (take k order))) o) in
+      (subst (IsFinishOrder edges) (turned ∙ push-through (reverse (drop (k + 1) order)) x (reverse (take k order)))
+      o) in
       Contains-reversed y (take k order) (last.0 y m)
 
 -- ranks by a list
-rank-more : (rank : ℕ → ℕ) (ys : List ℕ) (y : ℕ) → rank_over rank (ys ++ y ∷ []) ≡ max (rank_over rank ys) (suc (rank y))
+rank-more : (rank : ℕ → ℕ) (ys : List ℕ) (y : ℕ) →
+    rank_over rank (ys ++ y ∷ []) ≡ max (rank_over rank ys) (suc (rank y))
 rank-more rank [] y = omega arith
 rank-more rank (z ∷ ys) y = let a = rank-more rank ys y in omega (arith, a)
 
 pub rank-step : (rank : ℕ → ℕ) (ys : List ℕ) (i d : ℕ) → i < length ys →
     rank_over rank (take (i + 1) ys) ≡ max (rank_over rank (take i ys)) (suc (rank (slice_index_or ys i d)))
-rank-step rank ys i d lt = ap (rank_over rank) (take_more ys i d lt) ∙ rank-more rank (take i ys) (slice_index_or ys i d)
+rank-step rank ys i d lt =
+    ap (rank_over rank) (take_more ys i d lt) ∙ rank-more rank (take i ys) (slice_index_or ys i d)
 
-pub rank-small : (rank : ℕ → ℕ) (n : ℕ) (ys : List ℕ) → ((y : ℕ) → Contains ys y → rank y ≤ n) → rank_over rank ys ≤ n + 1
+pub rank-small : (rank : ℕ → ℕ) (n : ℕ) (ys : List ℕ) → ((y : ℕ) → Contains ys y → rank y ≤ n) →
+    rank_over rank ys ≤ n + 1
 rank-small rank n [] h = omega arith
-rank-small rank n (y ∷ ys) h = let a = h y (Contains-here y ys) in let b = rank-small rank n ys (λ z m. h z (Contains-there y z ys m)) in
+rank-small rank n (y ∷ ys) h =
+    let a = h y (Contains-here y ys) in let b = rank-small rank n ys (λ z m. h z (Contains-there y z ys m)) in
     omega (arith, a, b)
 
-pub rank-same : (rank rank' : ℕ → ℕ) (ys : List ℕ) → ((y : ℕ) → Contains ys y → rank' y ≡ rank y) → rank_over rank' ys ≡ rank_over rank ys
+pub rank-same : (rank rank' : ℕ → ℕ) (ys : List ℕ) → ((y : ℕ) → Contains ys y → rank' y ≡ rank y) →
+    rank_over rank' ys ≡ rank_over rank ys
 rank-same rank rank' [] h = refl
 rank-same rank rank' (y ∷ ys) h =
     λ i. max (suc (h y (Contains-here y ys) i)) (rank-same rank rank' ys (λ z m. h z (Contains-there y z ys m)) i)
 
-pub rank-told : (edges : ℕ → List ℕ) (order ranks : List ℕ) (i r : ℕ) → i < length order → IsFinishOrder edges (reverse order) →
+pub rank-told : (edges : ℕ → List ℕ) (order ranks : List ℕ) (i r : ℕ) → i < length order →
+    IsFinishOrder edges (reverse order) →
     slice_index_or order i 0 < length ranks →
     r ≡ rank_over (λ y. slice_index_or ranks y 0) (edges (slice_index_or order i 0)) →
     ((y : ℕ) → Contains (take i order) y → IsRank edges y (slice_index_or ranks y 0)) →
-    (y : ℕ) → Contains (take (i + 1) order) y → IsRank edges y (slice_index_or (set ranks (slice_index_or order i 0) r) y 0)
+    (y : ℕ) → Contains (take (i + 1) order) y → IsRank edges y
+    (slice_index_or (set ranks (slice_index_or order i 0) r) y 0)
 rank-told edges order ranks i r lt o held is told y m =
     let x : ℕ = slice_index_or order i 0 in
     let now : IsRank edges x r = subst (IsRank edges x) (sym is)
@@ -109,7 +123,8 @@ pub rank-grows : (ranks ys : List ℕ) (i x r : ℕ) → All (λ (k : ℕ). k �
     r ≡ rank_over (λ y. slice_index_or ranks y 0) ys → All (λ (k : ℕ). k ≤ i + 1) (set ranks x r)
 rank-grows ranks ys i x r h w e =
     All-set (λ (k : ℕ). k ≤ i + 1) ranks x r
-    (let a = rank-small (λ y. slice_index_or ranks y 0) i ys (λ y m. h y 0 (All-contains (λ (y : ℕ). y < length ranks) ys y w m)) in
+    (let a = rank-small (λ y. slice_index_or ranks y 0) i ys
+    (λ y m. h y 0 (All-contains (λ (y : ℕ). y < length ranks) ys y w m)) in
     omega (arith, a, e)) (λ k d l. let a = h k d l in omega arith)
 
 -- ---- the nodes that the order doesn't have
@@ -123,6 +138,8 @@ pub others-kept : (order ranks : List ℕ) (i r : ℕ) → i < length order →
     (y : ℕ) → (Contains (take (i + 1) order) y → ⊥) → slice_index_or (set ranks (slice_index_or order i 0) r) y 0 ≡ 0
 others-kept order ranks i r lt h y apart =
     let x : ℕ = slice_index_or order i 0 in
-    let among : Contains (take i order ++ x ∷ []) y → ⊥ = λ m. apart (subst (λ l. Contains l y) (sym (take_more order i 0 lt)) m) in
-    get_or-set_other ranks x y r 0 (λ e. among (Contains-append_right (take i order) (x ∷ []) y (Contains-first x y [] (sym e)))) ∙
+    let among : Contains (take i order ++ x ∷ []) y → ⊥ =
+    λ m. apart (subst (λ l. Contains l y) (sym (take_more order i 0 lt)) m) in
+    get_or-set_other ranks x y r 0
+    (λ e. among (Contains-append_right (take i order) (x ∷ []) y (Contains-first x y [] (sym e)))) ∙
     h y (λ m. among (Contains-append_left (take i order) (x ∷ []) y m))

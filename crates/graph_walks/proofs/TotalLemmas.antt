@@ -1,20 +1,27 @@
--- Where only so many things are reached, a search ends: with a first cycle, or with none, and then there is no cycle and a rank.
+-- Where only so many things are reached, a search ends: with a first cycle, or with none, and then there is no cycle
+-- and a rank.
 use Rattle.std.proofs.Common.{◌≡◌, ◌≢◌, ◌≤◌, refl, sym, ◌∙◌, ap, subst, arith, inl, inr}
 use Rattle.std.proofs.lemmas.List.{length-append}
 use Rattle.std.proofs.lemmas.List.Elements.{Contains-append_left, Contains-append_right, Contains-append_cases}
-use Rattle.std.specs.Prelude.{ℕ, zero, suc, max, ◌⊎◌, Bool, true, false, Option, None, Some, List, [], ◌∷◌, ◌++◌, length, reverse, Contains}
+use Rattle.std.specs.Prelude.{ℕ, zero, suc, max, ◌⊎◌, Bool, true, false, Option, None}
+use Rattle.std.specs.Prelude.{Some, List, [], ◌∷◌, ◌++◌, length, reverse, Contains}
 use Rattle.lists.proofs.Members.{split_by, Contains-cases, Contains-here, Contains-none, Contains-there}
-use Rattle.graph_walks.specs.Walks.{Reaches, itself, along, IsWalkFrom, HasCycle, IsRank, Searches, SearchesEach, closes, enters, no_more, finds, passes, IsFirstCycle}
+use Rattle.graph_walks.specs.Walks.{Reaches, itself, along, IsWalkFrom, HasCycle, IsRank, Searches}
+use Rattle.graph_walks.specs.Walks.{SearchesEach, closes, enters, no_more, finds, passes, IsFirstCycle}
 use Rattle.graph_walks.proofs.RankLaws.{by_order}
 
 module _ {X : Type 0} (edges : X → List X) where
   -- ---- nothing found
-  each-of : {path xs : List X} {found : Option (List X)} → SearchesEach edges path xs found → found ≡ None → (y : X) → Contains xs y →
+  each-of : {path xs : List X} {found : Option (List X)} → SearchesEach edges path xs found → found ≡ None → (y : X) →
+      Contains xs y →
       Searches edges path y None
   each-of no_more e y m = absurd (Contains-none y m)
   each-of (finds s) e y m = absurd cc
   each-of {path = path} (passes {x = x} {xs = xs} s t) e y m =
-      elim (Contains-cases x y xs m) [ inl same ↦ subst (λ v. Searches edges path v None) same s | inr k ↦ each-of t e y k ]
+      elim (Contains-cases x y xs m) [
+        | inl same ↦ subst (λ v. Searches edges path v None) same s
+        | inr k ↦ each-of t e y k
+      ]
 
   opened : {path : List X} {x : X} {found : Option (List X)} → Searches edges path x found → found ≡ None →
       ((y : X) → Contains path y → y ≢ x) × ((y : X) → Contains (edges x) y → Searches edges (x ∷ path) y None)
@@ -43,7 +50,8 @@ module _ {X : Type 0} (edges : X → List X) where
   unfolding Over
   rank-over x o = (o.0, (longest o.2, bound))
     where
-      longest : (o.0 ≡ 0) ⊎ ((y : X) × (walk : List X) × Contains (edges x) y × IsWalkFrom edges y walk × (suc (length walk) ≡ o.0)) →
+      longest : (o.0 ≡ 0) ⊎ ((y : X) × (walk : List X) × Contains (edges x) y × IsWalkFrom edges y walk ×
+          (suc (length walk) ≡ o.0)) →
           (walk : List X) × IsWalkFrom edges x walk × (length walk ≡ o.0)
       longest (inl e) = ([], tt, sym e)
       longest (inr h) = (h.0 ∷ h.1, (h.2, h.3), h.4)
@@ -73,7 +81,8 @@ module _ {X : Type 0} (edges : X → List X) where
   )
 
   mutual
-    rank-of : {path : List X} {x : X} {found : Option (List X)} → Searches edges path x found → found ≡ None → (n : ℕ) × IsRank edges x n
+    rank-of : {path : List X} {x : X} {found : Option (List X)} → Searches edges path x found → found ≡ None →
+        (n : ℕ) × IsRank edges x n
     rank-of (closes newer older e) f = absurd cc
     rank-of {x = x} (enters h t) f = rank-over x (ranks-of t f)
 
@@ -91,7 +100,8 @@ module _ {X : Type 0} (edges : X → List X) where
       where
         go : (b : Bool) → same p x ≡ b →
             ((newer : List X) × (older : List X) × (path ≡ newer ++ x ∷ older)) ⊎ ((y : X) → Contains path y → y ≢ x) →
-            ((newer : List X) × (older : List X) × (p ∷ path ≡ newer ++ x ∷ older)) ⊎ ((y : X) → Contains (p ∷ path) y → y ≢ x)
+            ((newer : List X) × (older : List X) × (p ∷ path ≡ newer ++ x ∷ older)) ⊎
+            ((y : X) → Contains (p ∷ path) y → y ≢ x)
         go true e rest = inl ([], path, ap (λ v. v ∷ path) (tells p x e))
         go false e (inl s) = inl (p ∷ s.0, s.1, ap (λ l. p ∷ l) s.2)
         go false e (inr h) = inr (λ y m f. elim (Contains-cases p y path m) [
@@ -99,12 +109,15 @@ module _ {X : Type 0} (edges : X → List X) where
           | inr k ↦ h y k f
         ])
 
-    each-total : (path xs : List X) → ((y : X) → Contains xs y → (found : Option (List X)) × Searches edges path y found) →
+    each-total : (path xs : List X) → ((y : X) → Contains xs y →
+        (found : Option (List X)) × Searches edges path y found) →
         (found : Option (List X)) × SearchesEach edges path xs found
     each-total path [] h = (None, no_more)
-    each-total path (x ∷ xs) h = go (h x (Contains-here x xs)) (each-total path xs (λ y m. h y (Contains-there x y xs m)))
+    each-total path (x ∷ xs) h =
+        go (h x (Contains-here x xs)) (each-total path xs (λ y m. h y (Contains-there x y xs m)))
       where
-        go : (found : Option (List X)) × Searches edges path x found → (found : Option (List X)) × SearchesEach edges path xs found →
+        go : (found : Option (List X)) × Searches edges path x found →
+            (found : Option (List X)) × SearchesEach edges path xs found →
             (found : Option (List X)) × SearchesEach edges path (x ∷ xs) found
         go (None, s) rest = (rest.0, passes s rest.1)
         go (Some walk, s) rest = (Some walk, finds s)
@@ -113,7 +126,8 @@ module _ {X : Type 0} (edges : X → List X) where
     Left left path x = (y : X) → Reaches edges x y → Contains left y ⊎ Contains path y
 
     -- what is left after one is taken out
-    left-less : (left path : List X) (x : X) (a b : List X) → left ≡ a ++ x ∷ b → Left left path x → (y : X) → Contains (edges x) y →
+    left-less : (left path : List X) (x : X) (a b : List X) → left ≡ a ++ x ∷ b → Left left path x → (y : X) →
+        Contains (edges x) y →
         Left (a ++ b) (x ∷ path) y
     unfolding Left
     left-less left path x a b e h y m z r = elim (h z (along y m r)) [
@@ -130,11 +144,13 @@ module _ {X : Type 0} (edges : X → List X) where
     step-total : (path : List X) (x : X) (left : List X) →
         ((newer : List X) × (older : List X) × (path ≡ newer ++ x ∷ older)) ⊎ ((y : X) → Contains path y → y ≢ x) →
         Contains left x ⊎ Contains path x →
-        (Contains left x → (y : X) → Contains (edges x) y → (found : Option (List X)) × Searches edges (x ∷ path) y found) →
+        (Contains left x → (y : X) → Contains (edges x) y →
+        (found : Option (List X)) × Searches edges (x ∷ path) y found) →
         (found : Option (List X)) × Searches edges path x found
     step-total path x left (inl s) m next = (Some (x ∷ reverse s.0 ++ x ∷ []), closes s.0 s.1 s.2)
     step-total path x left (inr apart) (inr m) next = absurd (apart x m refl)
-    step-total path x left (inr apart) (inl m) next = let e = each-total (x ∷ path) (edges x) (next m) in (e.0, enters apart e.1)
+    step-total path x left (inr apart) (inl m) next =
+        let e = each-total (x ∷ path) (edges x) (next m) in (e.0, enters apart e.1)
 
     first-of : (left path : List X) (x : X) → Left left path x → Contains left x ⊎ Contains path x
     unfolding Left
@@ -143,7 +159,8 @@ module _ {X : Type 0} (edges : X → List X) where
     total-from : (n : ℕ) (left path : List X) (x : X) → length left ≤ n → Left left path x →
         (found : Option (List X)) × Searches edges path x found
     total-from zero left path x le h =
-        step-total path x left (find-split path x) (first-of left path x h) (λ m. absurd (let a = m.1 in omega (arith, a, le)))
+        step-total path x left (find-split path x) (first-of left path x h)
+        (λ m. absurd (let a = m.1 in omega (arith, a, le)))
     total-from (suc n) left path x le h = step-total path x left (find-split path x) (first-of left path x h) (λ m y k.
         (let s = split_by left x m in
         let a = ap length s.2 in let b = length-append s.0 (x ∷ s.1) in let c = length-append s.0 s.1 in
@@ -159,6 +176,7 @@ module _ {X : Type 0} (edges : X → List X) where
     cycle-or-rank all root h = go (total-from (length all) all [] root (omega arith) (left-all all root h))
       where
         go : (found : Option (List X)) × Searches edges [] root found →
-            ((walk : List X) × IsFirstCycle edges root walk) ⊎ ((HasCycle edges root → ⊥) × ((n : ℕ) × IsRank edges root n))
+            ((walk : List X) × IsFirstCycle edges root walk) ⊎
+            ((HasCycle edges root → ⊥) × ((n : ℕ) × IsRank edges root n))
         go (None, s) = inr (none-found root s, rank-of s refl)
         go (Some walk, s) = inl (walk, s)

@@ -3,15 +3,19 @@ use Rattle.std.proofs.Common.{◌≡◌, refl, sym, subst, inl, inr}
 use Rattle.std.proofs.lemmas.List.{reverse-append}
 use Rattle.std.specs.Prelude.{Option, None, Some, List, [], ◌∷◌, ◌++◌, reverse, Contains}
 use Rattle.lists.proofs.Members.{Contains-cases, Contains-here, Contains-none, Contains-there}
-use Rattle.graph_walks.specs.Walks.{Reaches, itself, along, IsWalkFrom, IsCycle, HasCycle, Searches, SearchesEach, closes, enters, no_more, finds, passes, IsFirstCycle, IsFinishOrder}
+use Rattle.graph_walks.specs.Walks.{Reaches, itself, along, IsWalkFrom, IsCycle, HasCycle, Searches, SearchesEach}
+use Rattle.graph_walks.specs.Walks.{closes, enters, no_more, finds, passes, IsFirstCycle, IsFinishOrder}
 
 module _ {X : Type 0} (edges : X → List X) where
-  each-none : (path xs : List X) → ((y : X) → Contains xs y → Searches edges path y None) → SearchesEach edges path xs None
+  each-none : (path xs : List X) → ((y : X) → Contains xs y → Searches edges path y None) →
+      SearchesEach edges path xs None
   each-none path [] h = no_more
-  each-none path (x ∷ xs) h = passes (h x (Contains-here x xs)) (each-none path xs (λ y m. h y (Contains-there x y xs m)))
+  each-none path (x ∷ xs) h =
+      passes (h x (Contains-here x xs)) (each-none path xs (λ y m. h y (Contains-there x y xs m)))
 
   -- a search of a finished thing, under a path of things that aren't finished, finds nothing
-  pub finds_none : (l : List X) → IsFinishOrder edges l → (path : List X) → ((y : X) → Contains path y → Contains l y → ⊥) → (x : X) →
+  pub finds_none : (l : List X) → IsFinishOrder edges l → (path : List X) →
+      ((y : X) → Contains path y → Contains l y → ⊥) → (x : X) →
       Contains l x → Searches edges path x None
   finds_none [] o path h x m = absurd (Contains-none x m)
   finds_none (z ∷ l) o path h x m =
@@ -45,7 +49,10 @@ module _ {X : Type 0} (edges : X → List X) where
   no_cycle [] o root m c = Contains-none root m
   no_cycle (z ∷ l) o root m c =
       elim (Contains-cases z c.0 l (stays (z ∷ l) o c.2 m)) [
-        | inl f ↦ o.1 (subst (λ v. Contains l v) (sym f) (stays l o.2 c.4 (o.0 c.1 (subst (λ v. Contains (edges v) c.1) (sym f) c.3))))
+        | inl f ↦
+            o.1
+            (subst (λ v. Contains l v) (sym f) (stays l o.2 c.4
+            (o.0 c.1 (subst (λ v. Contains (edges v) c.1) (sym f) c.3))))
         | inr k ↦ no_cycle l o.2 c.0 k (c.0, c.1, itself, c.3, c.4)
       ]
 
@@ -64,7 +71,8 @@ module _ {X : Type 0} (edges : X → List X) where
     reached [] x e = subst (λ v. Reaches edges root v) e itself
     reached (p ∷ path) x h = reaches-further (reached path p h.1) h.0
 
-    back : (newer older : List X) (x z : X) → LeadsTo (newer ++ x ∷ older) z → (y : X) × Contains (edges x) y × Reaches edges y z
+    back : (newer older : List X) (x z : X) → LeadsTo (newer ++ x ∷ older) z →
+        (y : X) × Contains (edges x) y × Reaches edges y z
     unfolding LeadsTo
     back [] older x z h = (z, h.0, itself)
     back (p ∷ newer) older x z h = let b = back newer older x p h.1 in (b.0, b.1, reaches-further b.2 h.0)
@@ -78,14 +86,16 @@ module _ {X : Type 0} (edges : X → List X) where
     start = refl
 
     mutual
-      cycle-of : {path : List X} {x : X} {found : Option (List X)} → Searches edges path x found → (walk : List X) → found ≡ Some walk →
+      cycle-of : {path : List X} {x : X} {found : Option (List X)} → Searches edges path x found → (walk : List X) →
+          found ≡ Some walk →
           LeadsTo path x → HasCycle edges root
       cycle-of {path = path} {x = x} (closes newer older e) walk f l =
           let b = back newer older x x (subst (λ p. LeadsTo p x) e l) in
           (x, b.0, reached path x l, b.1, b.2)
       cycle-of {path = path} {x = x} (enters h s) walk f l = cycle-each s walk f (below path x l)
 
-      cycle-each : {path xs : List X} {found : Option (List X)} → SearchesEach edges path xs found → (walk : List X) → found ≡ Some walk →
+      cycle-each : {path xs : List X} {found : Option (List X)} → SearchesEach edges path xs found → (walk : List X) →
+          found ≡ Some walk →
           ((y : X) → Contains xs y → LeadsTo path y) → HasCycle edges root
       cycle-each no_more walk f l = absurd cc
       cycle-each (finds {x = x} {xs = xs} {walk = w} s) walk f l = cycle-of s w refl (l x (Contains-here x xs))
@@ -109,7 +119,8 @@ module _ {X : Type 0} (edges : X → List X) where
     walk-push x [] p z w m = (w.0, (m, tt))
     walk-push x (y ∷ l) p z w m = (w.0, walk-push y l p z w.1 m)
 
-    forth : (newer older : List X) (x z : X) → LeadsTo (newer ++ x ∷ older) z → IsWalkFrom edges x (reverse newer ++ z ∷ [])
+    forth : (newer older : List X) (x z : X) → LeadsTo (newer ++ x ∷ older) z →
+        IsWalkFrom edges x (reverse newer ++ z ∷ [])
     unfolding LeadsTo
     forth [] older x z h = (h.0, tt)
     forth (p ∷ newer) older x z h =
@@ -117,7 +128,8 @@ module _ {X : Type 0} (edges : X → List X) where
         (walk-push x (reverse newer) p z (forth newer older x p h.1) h.0)
 
     mutual
-      closed-of : {path : List X} {x : X} {found : Option (List X)} → Searches edges path x found → (walk : List X) → found ≡ Some walk →
+      closed-of : {path : List X} {x : X} {found : Option (List X)} → Searches edges path x found → (walk : List X) →
+          found ≡ Some walk →
           LeadsTo path x → IsCycle edges root walk
       closed-of {path = path} {x = x} (closes newer older e) walk f l =
           let same : x ∷ reverse newer ++ x ∷ [] ≡ walk = cc in
@@ -136,7 +148,8 @@ module _ {X : Type 0} (edges : X → List X) where
     closed walk s = closed-of s walk refl start
 
     -- what a walk goes through is reached
-    pub walk-reached : (x : X) (walk : List X) → Reaches edges root x → IsWalkFrom edges x walk → (z : X) → Contains walk z →
+    pub walk-reached : (x : X) (walk : List X) → Reaches edges root x → IsWalkFrom edges x walk → (z : X) →
+        Contains walk z →
         Reaches edges root z
     walk-reached x [] r w z m = absurd (Contains-none z m)
     walk-reached x (y ∷ walk) r w z m = elim (Contains-cases y z walk m) [

@@ -9,7 +9,8 @@ use Rattle.graph_walks.specs.Graph.{ends_of}
 use Rattle.graph_walks.specs.Search.{new_work, frames_work}
 
 -- a node is entered
-pub work_less : (marks : List Mark) (graph : List (List ℕ)) (y : ℕ) → slice_get marks y ≡ Some New → length marks ≡ length graph →
+pub work_less : (marks : List Mark) (graph : List (List ℕ)) (y : ℕ) → slice_get marks y ≡ Some New →
+    length marks ≡ length graph →
     new_work marks graph ≡ 2 + length (ends_of graph y) + new_work (set marks y OnPath) graph
 work_less [] graph y e l = cc
 work_less (m ∷ ms) [] y e l = absurd (omega (arith, l))
@@ -37,9 +38,11 @@ pushed-work : (graph : List (List ℕ)) (path longer : List Frame) (f : Frame) �
 pushed-work graph path longer f e = ap (frames_work graph) (ap reverse e ∙ reverse-push path f)
 
 -- ---- the turns; the last frame is taken off the path first
-module _ (graph : List (List ℕ)) (marks : List Mark) (path rest : List Frame) (top : Frame) (e : path ≡ rest ++ top ∷ []) where
+module _ (graph : List (List ℕ)) (marks : List Mark) (path rest : List Frame) (top : Frame)
+    (e : path ≡ rest ++ top ∷ []) where
   pub work-leave : slice_get marks top.node ≡ Some OnPath →
-      new_work (set marks top.node Done) graph + frames_work graph (reverse rest) < new_work marks graph + frames_work graph (reverse path)
+      new_work (set marks top.node Done) graph + frames_work graph (reverse rest) < new_work marks graph +
+      frames_work graph (reverse path)
   work-leave m = let same = work_same marks graph top.node m in let before = pushed-work graph rest path top e in
       omega (arith, same, before)
 
@@ -51,9 +54,11 @@ module _ (graph : List (List ℕ)) (marks : List Mark) (path rest : List Frame) 
       let after = pushed-work graph rest path' (record { node = top.node; next = top.next + 1 }) p in
       omega (arith, before, after, lt)
 
-  pub work-enter : (path' longer : List Frame) (y : ℕ) → path' ≡ rest ++ top ∷ [] → longer ≡ path' ++ record { node = y; next = 0 } ∷ [] →
+  pub work-enter : (path' longer : List Frame) (y : ℕ) → path' ≡ rest ++ top ∷ [] →
+      longer ≡ path' ++ record { node = y; next = 0 } ∷ [] →
       slice_get marks y ≡ Some New → length marks ≡ length graph →
-      new_work (set marks y OnPath) graph + frames_work graph (reverse longer) < new_work marks graph + frames_work graph (reverse path)
+      new_work (set marks y OnPath) graph + frames_work graph (reverse longer) < new_work marks graph +
+      frames_work graph (reverse path)
   work-enter path' longer y p q m long =
       let less = work_less marks graph y m long in
       let after = pushed-work graph path' longer (record { node = y; next = 0 }) q in

@@ -1,5 +1,6 @@
 -- What a search finds, and what it holds while it goes on.
-use Rattle.std.specs.Prelude.{◌≡◌, ◌⊎◌, ◌↔◌, ℕ, ◌+◌, ◌-◌, ◌<◌, ◌≤◌, Bool, true, false, Option, None, Some, List, [], ◌∷◌, ◌++◌, length, reverse, map, take, drop, All, Contains, slice_get}
+use Rattle.std.specs.Prelude.{◌≡◌, ◌⊎◌, ◌↔◌, ℕ, ◌+◌, ◌-◌, ◌<◌, ◌≤◌, Bool, true, false, Option, None, Some}
+use Rattle.std.specs.Prelude.{List, [], ◌∷◌, ◌++◌, length, reverse, map, take, drop, All, Contains, slice_get}
 use Rattle.lists.specs.Distinct.{IsDistinct}
 use Rattle.graph_walks.specs.declared.depth_first.Frame.{Frame}
 use Rattle.graph_walks.specs.declared.depth_first.Mark.{Mark}
@@ -30,12 +31,14 @@ abbrev pub path_of : List Frame → List ℕ
 path_of frames = map (λ f. f.node) frames
 
 module _ (graph : List (List ℕ)) where
-  -- what the search of the root finds, where the last frames are resumed each at its next edge; frames from last to first
+  -- what the search of the root finds, where the last frames are resumed each at its next edge; frames from last to
+  -- first
   abbrev pub Resumes : List Frame → Option (List ℕ) → Type 0
   Resumes [] found = found ≡ None
   Resumes (f ∷ frames) found =
       let left = drop f.next (ends_of graph f.node) in
-      ((walk : List ℕ) × (found ≡ Some walk) × SearchesEach (ends_of graph) (f.node ∷ path_of frames) left (Some walk)) ⊎
+      ((walk : List ℕ) × (found ≡ Some walk) × SearchesEach (ends_of graph) (f.node ∷ path_of frames) left
+      (Some walk)) ⊎
       (SearchesEach (ends_of graph) (f.node ∷ path_of frames) left None × Resumes frames found)
 
   -- a node of the graph, with so many edges at least

@@ -3,7 +3,8 @@ ghost use Rattle.graph_walks.specs.Graph.{ends_of, EndsAreNodes};
 ghost use Rattle.graph_walks.specs.Search.{IsFound};
 ghost use Rattle.graph_walks.specs.Walks.{HasCycle};
 ghost use Rattle.graph_walks.specs.declared.depth_first.Mark.TheVariants.{New};
-ghost use Rattle.std.specs.Prelude.{◌≡◌, ◌<◌, ◌+◌, ◌^◌, ℕ, List, IfOk, IfSome, IsTrue, ◌↔◌, length, map, Contains, ◌++◌, ◌∷◌, [], replicate, slice_get};
+ghost use Rattle.std.specs.Prelude.{◌≡◌, ◌<◌, ◌+◌, ◌^◌, ℕ, List, IfOk, IfSome, IsTrue, ◌↔◌};
+ghost use Rattle.std.specs.Prelude.{length, map, Contains, ◌++◌, ◌∷◌, [], replicate, slice_get};
 
 use crate::graph::Graph;
 use std::alloc::{AllocError, Global};

@@ -1,5 +1,6 @@
 //! Graphs of numbered nodes.
-ghost use Rattle.std.specs.Prelude.{◌≡◌, ◌<◌, ◌≤◌, ◌↔◌, List, [], ◌∷◌, ◌++◌, ◌+◌, length, slice_index_or, IsTrue, OnOk, OnErr};
+ghost use Rattle.std.specs.Prelude.{◌≡◌, ◌<◌, ◌≤◌, ◌↔◌, List, [], ◌∷◌, ◌++◌, ◌+◌};
+ghost use Rattle.std.specs.Prelude.{length, slice_index_or, IsTrue, OnOk, OnErr};
 ghost use Rattle.graph_walks.specs.Graph.{ends_of, lists_of, with_end, AddsEnd, AreStarts};
 
 use std::alloc::{AllocError, Global};

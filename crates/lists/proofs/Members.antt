@@ -3,7 +3,8 @@ use Rattle.std.proofs.Common.{◌≡◌, ◌<◌, refl, sym, ◌∙◌, ap, subs
 use Rattle.std.specs.Prelude.{ℕ, zero, suc, ◌⊎◌, List, [], ◌∷◌, ◌++◌, map, length, reverse, Contains}
 use Rattle.std.specs.List.{flat_map}
 use Rattle.std.proofs.lemmas.List.{reverse-append, reverse-reverse, map-append}
-use Rattle.std.proofs.lemmas.List.Elements.{Contains-append_left, Contains-append_right, Contains-append_cases, Contains-push}
+use Rattle.std.proofs.lemmas.List.Elements.{Contains-append_left, Contains-append_right}
+use Rattle.std.proofs.lemmas.List.Elements.{Contains-append_cases, Contains-push}
 
 pub Contains-here : {X : Type 0} (x : X) (xs : List X) → Contains (x ∷ xs) x
 Contains-here x xs = (0, omega arith, refl)
@@ -33,7 +34,8 @@ Contains-map f x (y ∷ xs) h = elim (Contains-cases y x xs h) [
 ]
 
 -- what stands in a mapped list is the image of a member
-pub Contains-map_cases : {X Y : Type 0} (f : X → Y) (y : Y) (xs : List X) → Contains (map f xs) y → (x : X) × Contains xs x × (f x ≡ y)
+pub Contains-map_cases : {X Y : Type 0} (f : X → Y) (y : Y) (xs : List X) → Contains (map f xs) y →
+    (x : X) × Contains xs x × (f x ≡ y)
 Contains-map_cases f y [] h = absurd (Contains-none y h)
 Contains-map_cases f y (x ∷ xs) h = elim (Contains-cases (f x) y (map f xs) h) [
   | inl e ↦ (x, Contains-here x xs, e)
@@ -41,7 +43,8 @@ Contains-map_cases f y (x ∷ xs) h = elim (Contains-cases (f x) y (map f xs) h)
 ]
 
 -- what stands in the image of a member stands in the joined images
-pub Contains-flat_map : {X Y : Type 0} (f : X → List Y) (x : X) (y : Y) (xs : List X) → Contains xs x → Contains (f x) y → Contains (flat_map f xs) y
+pub Contains-flat_map : {X Y : Type 0} (f : X → List Y) (x : X) (y : Y) (xs : List X) → Contains xs x →
+    Contains (f x) y → Contains (flat_map f xs) y
 Contains-flat_map f x y [] h m = absurd (Contains-none x h)
 Contains-flat_map f x y (z ∷ xs) h m = elim (Contains-cases z x xs h) [
   | inl e ↦ Contains-append_left (f z) (flat_map f xs) y (subst (λ v. Contains (f v) y) (sym e) m)
@@ -49,7 +52,8 @@ Contains-flat_map f x y (z ∷ xs) h m = elim (Contains-cases z x xs h) [
 ]
 
 -- what stands in joined images stands in the image of a member
-pub Contains-flat_map_cases : {X Y : Type 0} (f : X → List Y) (y : Y) (xs : List X) → Contains (flat_map f xs) y → (x : X) × Contains xs x × Contains (f x) y
+pub Contains-flat_map_cases : {X Y : Type 0} (f : X → List Y) (y : Y) (xs : List X) → Contains (flat_map f xs) y →
+    (x : X) × Contains xs x × Contains (f x) y
 Contains-flat_map_cases f y [] h = absurd (Contains-none y h)
 Contains-flat_map_cases f y (x ∷ xs) h = elim (Contains-append_cases (f x) (flat_map f xs) y h) [
   | inl m ↦ (x, Contains-here x xs, m)
@@ -66,7 +70,8 @@ reverse-push xs x = reverse-append xs (x ∷ [])
 pub map-reverse : {X Y : Type 0} (f : X → Y) (xs : List X) → map f (reverse xs) ≡ reverse (map f xs)
 map-reverse f [] = refl
 map-reverse f (x ∷ xs) =
-    ap (map f) (reverse-cons x xs) ∙ map-append f (reverse xs) (x ∷ []) ∙ ap (λ l. l ++ f x ∷ []) (map-reverse f xs) ∙ sym (reverse-cons (f x) (map f xs))
+    ap (map f) (reverse-cons x xs) ∙ map-append f (reverse xs) (x ∷ []) ∙ ap (λ l. l ++ f x ∷ []) (map-reverse f xs) ∙
+    sym (reverse-cons (f x) (map f xs))
 
 pub Contains-reverse : {X : Type 0} (x : X) (xs : List X) → Contains xs x → Contains (reverse xs) x
 Contains-reverse x [] h = absurd (Contains-none x h)
@@ -89,12 +94,16 @@ split_by (y ∷ ys) x m = elim (Contains-cases y x ys m) [
 ]
 
 -- maps that agree on the members
-pub map-map : {X Y Z : Type 0} (a : X → Y) (b : Y → Z) (c : X → Z) (xs : List X) → ((x : X) → Contains xs x → b (a x) ≡ c x) → map b (map a xs) ≡ map c xs
+pub map-map : {X Y Z : Type 0} (a : X → Y) (b : Y → Z) (c : X → Z) (xs : List X) →
+    ((x : X) → Contains xs x → b (a x) ≡ c x) → map b (map a xs) ≡ map c xs
 map-map a b c [] same = refl
 map-map a b c (x ∷ xs) same =
-    ap (λ z. z ∷ map b (map a xs)) (same x (Contains-here x xs)) ∙ ap (λ l. c x ∷ l) (map-map a b c xs (λ y m. same y (Contains-there x y xs m)))
+    ap (λ z. z ∷ map b (map a xs)) (same x (Contains-here x xs)) ∙
+    ap (λ l. c x ∷ l) (map-map a b c xs (λ y m. same y (Contains-there x y xs m)))
 
-pub flat_map-same : {X Y : Type 0} (a b : X → List Y) (xs : List X) → ((x : X) → Contains xs x → a x ≡ b x) → flat_map a xs ≡ flat_map b xs
+pub flat_map-same : {X Y : Type 0} (a b : X → List Y) (xs : List X) → ((x : X) → Contains xs x → a x ≡ b x) →
+    flat_map a xs ≡ flat_map b xs
 flat_map-same a b [] same = refl
 flat_map-same a b (x ∷ xs) same =
-    ap (λ l. l ++ flat_map a xs) (same x (Contains-here x xs)) ∙ ap (λ l. b x ++ l) (flat_map-same a b xs (λ y m. same y (Contains-there x y xs m)))
+    ap (λ l. l ++ flat_map a xs) (same x (Contains-here x xs)) ∙
+    ap (λ l. b x ++ l) (flat_map-same a b xs (λ y m. same y (Contains-there x y xs m)))

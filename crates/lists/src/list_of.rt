@@ -1,7 +1,8 @@
 //! A list over `Vec`.
 ghost use Rattle.std.specs.Fn.{CalledAt};
 ghost use Rattle.std.specs.List.Retain.{IsFiltered};
-ghost use Rattle.std.specs.Prelude.{◌≡◌, ◌∷◌, ◌++◌, ◌+◌, ◌^◌, ◌<◌, ◌≤◌, ◌↔◌, IfNone, IfSome, IsTrue, MatchOption, OnErr, OnOk, Some, [], length, slice_get};
+ghost use Rattle.std.specs.Prelude.{◌≡◌, ◌∷◌, ◌++◌, ◌+◌, ◌^◌, ◌<◌, ◌≤◌, ◌↔◌, IfNone, IfSome};
+ghost use Rattle.std.specs.Prelude.{IsTrue, MatchOption, OnErr, OnOk, Some, [], length, slice_get};
 
 use std::alloc::{AllocError, Global};
 use std::marker::Model;

@@ -6,7 +6,8 @@ use Rattle.orientation.specs.declared.kind.Kind.{Kind}
 use Rattle.orientation.specs.Turns.{composed, sign_of, turn_of, turn_eq}
 use Rattle.orientation.specs.Kinds.{name_of, kind_of_name, kind_eq}
 
--- composition is associative, forward is its identity, internal and external are its left zeros, and reversing twice is no change
+-- composition is associative, forward is its identity, internal and external are its left zeros, and reversing twice is
+-- no change
 pub record TurnsCompose : Type 0 where
   pub associative : (a b c : Turn) → composed a (composed b c) ≡ composed (composed a b) c
   pub forward_outer : (t : Turn) → composed Forward t ≡ t

@@ -3,7 +3,8 @@ ghost use Rattle.std.specs.Prelude.{◌≡◌, ◌≢◌, ◌↔◌, IsTrue, IfS
 ghost use Rattle.orientation.specs.declared.kind.Kind.{Kind};
 ghost use Rattle.orientation.specs.Kinds.{IsBelow, is_below, kind_of_name as kind_named, name_of};
 
-/// The kinds of shapes, from the lowest to the highest: vertex, edge, wire, face, shell, solid, composite solid, compound.
+/// The kinds of shapes, from the lowest to the highest: vertex, edge, wire, face, shell, solid, composite solid,
+/// compound.
 #[derive(Clone, Copy, Debug, PartialEq, Eq, Hash)]
 pub enum Kind {
     Ve,
@@ -16,7 +17,8 @@ pub enum Kind {
     Co,
 }
 
-/// Whether a shape of the kind `child` may stand in one of the kind `parent`: its kind is lower, or the parent is a compound.
+/// Whether a shape of the kind `child` may stand in one of the kind `parent`: its kind is lower, or the parent is a
+/// compound.
 pub fn below(child: Kind, parent: Kind) -> bool
     ensures computed { result ≡ is_below child parent }
     ensures below { IsTrue result ↔ IsBelow child parent }

@@ -3,7 +3,8 @@ ghost use Rattle.std.specs.Prelude.{◌≡◌, ◌≢◌, IfSome, IfNone};
 ghost use Rattle.orientation.specs.declared.turn.Turn.{Turn};
 ghost use Rattle.orientation.specs.Turns.{composed, sign_of, turn_of};
 
-/// How a shape is used: along its own direction, against it, or as a cut whose two sides are both inside or both outside.
+/// How a shape is used: along its own direction, against it, or as a cut whose two sides are both inside or both
+/// outside.
 #[derive(Clone, Copy, Debug, PartialEq, Eq, Hash)]
 pub enum Turn {
     Forward,
