@@ -52,7 +52,7 @@ impl Graph {
     }
 
     /// Adds an edge from the last node, after those that it has.
-    #[tactic(auto, using(crate::proofs::GraphLemmas::starts_end, crate::proofs::GraphLemmas::lists_end, crate::proofs::GraphLemmas::adds_end))]
+    #[tactic(auto, using(crate::proofs::Ends::starts_end, crate::proofs::Ends::parts, crate::proofs::Ends::adds_end))]
     pub fn add_end(&mut self, end: u32) -> Result<(), AllocError>
         requires { 0 < length self.old }
         ensures ok { OnOk result (self.new ≡ with_end self.old end) }

@@ -7,8 +7,11 @@ use Rattle.location_words.specs.declared.pair.Pair.{Pair}
 use Rattle.location_words.specs.Pairs.{pair, is_zero, taken_onto, norm, mul, IsWord}
 use Rattle.location_words.specs.Products.{product}
 use Rattle.location_words.specs.Equal.{pairs_decide}
-use Rattle.location_words.specs.Laws.{Shortens, adds, drops, Chain, stays, goes, IsEnd, ReductionEnds, WordsAreAGroup, PairsMakeWords, ProductsJoin, TestTells}
-use Rattle.location_words.proofs.WordLaws.{IsReduced, is_zero-true, reverse-cons, eqb_same, norm-norm, mul_assoc, mul-empty, empty-mul, mul-inverse, inverse-mul, inverse-product, IsWord-mul, IsWord-inverse, reduced-of-word, word-of-reduced}
+use Rattle.location_words.specs.Laws.{Shortens, adds, drops, Chain, stays, goes, IsEnd, ReductionEnds}
+use Rattle.location_words.specs.Laws.{WordsAreAGroup, PairsMakeWords, ProductsJoin, TestTells}
+use Rattle.location_words.proofs.WordLaws.{IsReduced, is_zero-true, reverse-cons, eqb_same, norm-norm, mul_assoc}
+use Rattle.location_words.proofs.WordLaws.{mul-empty, empty-mul, mul-inverse, inverse-mul, inverse-product}
+use Rattle.location_words.proofs.WordLaws.{IsWord-mul, IsWord-inverse, reduced-of-word, word-of-reduced}
 use Rattle.location_words.proofs.GroupLaws.{norm-chain, norm-end}
 use Rattle.location_words.proofs.SeamLemmas.{reduced-of, reduced-suffix}
 use Rattle.location_words.proofs.PowerLemmas.{one-power, power-word}
@@ -32,9 +35,11 @@ one-step : {l m : List Pair} → Shortens l m → Chain l m
 one-step {l} {m} s = goes m s stays
 
 -- ---- taking one pair is a chain
-dropped : (before behind : List Pair) (p : Pair) → is_zero p.power ≡ true → Chain (before ++ p ∷ behind) (before ++ behind)
+dropped : (before behind : List Pair) (p : Pair) → is_zero p.power ≡ true →
+    Chain (before ++ p ∷ behind) (before ++ behind)
 dropped before behind p z =
-    then-goes (same-chain (ap (λ n. before ++ pair p.datum n ∷ behind) (is_zero-true p.power z))) (one-step (drops before behind p.datum))
+    then-goes (same-chain (ap (λ n. before ++ pair p.datum n ∷ behind) (is_zero-true p.power z)))
+    (one-step (drops before behind p.datum))
 
 taken : (w l : List Pair) (p : Pair) → Chain (reverse w ++ p ∷ l) (reverse (taken_onto w p) ++ l)
 taken [] l p = by_test (is_zero p.power) (λ e. rw e (dropped [] l p e)) (λ e. rw e stays)
@@ -50,9 +55,12 @@ taken (q ∷ w) l p =
     behind_last : (x : Pair) (v : List Pair) → reverse (x ∷ v) ++ l ≡ reverse v ++ x ∷ l
     behind_last x v = ap (λ r. r ++ l) (reverse-cons x v) ∙ append_assoc (reverse v) (x ∷ []) l
 
-    added : (q.datum == p.datum) ≡ true → Chain (reverse (q ∷ w) ++ p ∷ l) (reverse w ++ pair q.datum (q.power +ℤ p.power) ∷ l)
+    added : (q.datum == p.datum) ≡ true → Chain (reverse (q ∷ w) ++ p ∷ l)
+        (reverse w ++ pair q.datum (q.power +ℤ p.power) ∷ l)
     added f =
-        then-goes (same-chain (ap (λ r. r ++ p ∷ l) (reverse-cons q w) ∙ append_assoc (reverse w) (q ∷ []) (p ∷ l) ∙ ap (λ d. reverse w ++ q ∷ pair d p.power ∷ l) (sym (eqb-true q.datum p.datum f))))
+        then-goes
+        (same-chain (ap (λ r. r ++ p ∷ l) (reverse-cons q w) ∙ append_assoc (reverse w) (q ∷ []) (p ∷ l) ∙
+        ap (λ d. reverse w ++ q ∷ pair d p.power ∷ l) (sym (eqb-true q.datum p.datum f))))
         (one-step (adds (reverse w) l q.datum q.power p.power))
 
 taken-all : (w l : List Pair) → Chain (reverse w ++ l) (reverse (fold taken_onto w l))

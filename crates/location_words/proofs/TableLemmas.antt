@@ -1,5 +1,6 @@
 -- Tables of words.
-use Rattle.std.proofs.Common.{◌≡◌, ◌<◌, ℕ, arith, slice_index_or, slice_get, ap, sym, subst, ◌∙◌, List, [], ◌∷◌, ◌++◌, All, true, Some, Contains, position}
+use Rattle.std.proofs.Common.{◌≡◌, ◌<◌, ℕ, arith, slice_index_or, slice_get, ap, sym, subst}
+use Rattle.std.proofs.Common.{◌∙◌, List, [], ◌∷◌, ◌++◌, All, true, Some, Contains, position}
 use Rattle.std.specs.List.{list_any, IsDistinct}
 use Rattle.std.proofs.lemmas.Bool.{ltb-true, ltb-false}
 use Rattle.std.specs.Prelude.{nat_lt, unwrap_or, ◌↔◌}
@@ -33,7 +34,9 @@ entered-words t w h k = by_test (list_any (pairs_eq w) t) (λ e. rw e h) (λ e. 
 
 -- a word that is read at a place is found
 pub found-at : (t : Table) (w : List Pair) (i : ℕ) → slice_get t i ≡ Some w → list_any (pairs_eq w) t ≡ true
-found-at t w i h = list_any_at (pairs_eq w) t i w (slice_get_within t i w h) ((pairs_decide w (slice_index_or t i w)).1 (sym (get_or_from_slice_get t i w w h)))
+found-at t w i h =
+    list_any_at (pairs_eq w) t i w (slice_get_within t i w h)
+    ((pairs_decide w (slice_index_or t i w)).1 (sym (get_or_from_slice_get t i w w h)))
 
 pub found-contained : (t : Table) (w : List Pair) → Contains t w → list_any (pairs_eq w) t ≡ true
 found-contained t w c = list_any_at (pairs_eq w) t c.0 w c.1 ((pairs_decide w (slice_index_or t c.0 w)).1 (sym c.2))
@@ -44,7 +47,8 @@ position-at t w i h =
     slice_get-get_or t i w p.0 ∙ ap Some (sym ((pairs_decide w (slice_index_or t i w)).0 p.1))
 
 -- no word has two places
-pub distinct-places : (t : Table) → IsDistinct pairs_eq t → (i j : ℕ) (w : List Pair) → slice_get t i ≡ Some w → slice_get t j ≡ Some w → i ≡ j
+pub distinct-places : (t : Table) → IsDistinct pairs_eq t → (i j : ℕ) (w : List Pair) → slice_get t i ≡ Some w →
+    slice_get t j ≡ Some w → i ≡ j
 distinct-places t d i j w h k =
     by_test (nat_lt i j)
     (λ e. absurd (apart i j w h k (ltb-true i j e)))
@@ -53,16 +57,20 @@ distinct-places t d i j w h k =
     (λ f. let a = ltb-false i j e in let b = ltb-false j i f in omega (arith, a, b)))
   where
     apart : (i j : ℕ) (w : List Pair) → slice_get t i ≡ Some w → slice_get t j ≡ Some w → i < j → ⊥
-    apart i j w h k lt = AllPairs-from_IsDistinct pairs_decide t d i j w lt (slice_get_within t j w k) (get_or_from_slice_get t i w w h ∙ sym (get_or_from_slice_get t j w w k))
+    apart i j w h k lt =
+        AllPairs-from_IsDistinct pairs_decide t d i j w lt (slice_get_within t j w k)
+        (get_or_from_slice_get t i w w h ∙ sym (get_or_from_slice_get t j w w k))
 
-pub entered-table : (t n : Table) (w : List Pair) → n ≡ entered t w → IsTable t → IsHeldWord w → IsDistinct pairs_eq n → IsTable n
+pub entered-table : (t n : Table) (w : List Pair) → n ≡ entered t w → IsTable t → IsHeldWord w → IsDistinct pairs_eq n →
+    IsTable n
 entered-table t n w e h k d = record {
   identity = subst (λ l. slice_get l 0 ≡ Some []) (sym e) (entered-kept t w [] 0 h.identity);
   words = subst (All IsHeldWord) (sym e) (entered-words t w h.words k);
   distinct = distinct-places n d;
 }
 
-pub same-number : (n : Table) (w : List Pair) (at : ℕ) → slice_get n at ≡ Some w → IsDistinct pairs_eq n → (i : ℕ) (v : List Pair) → slice_get n i ≡ Some v → (i ≡ at) ↔ (v ≡ w)
+pub same-number : (n : Table) (w : List Pair) (at : ℕ) → slice_get n at ≡ Some w → IsDistinct pairs_eq n →
+    (i : ℕ) (v : List Pair) → slice_get n i ≡ Some v → (i ≡ at) ↔ (v ≡ w)
 same-number n w at h d i v k = (
   λ e. some-same (sym k ∙ ap (slice_get n) e ∙ h),
   λ e. distinct-places n d i at w (k ∙ ap Some e) h,

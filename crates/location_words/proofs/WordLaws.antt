@@ -1,6 +1,7 @@
 -- The laws of words. A list is read from its last pair to its first here, so that the end of a result is its head.
 use Rattle.std.proofs.Common.{◌≡◌, refl, sym, ◌∙◌, ap, subst, arith, append_assoc, eqb-true, eq-eqb}
-use Rattle.std.specs.Prelude.{ℕ, zero, suc, ◌==◌, ℤ, pos, negsuc, ◌+ℤ◌, neg_ℤ, Bool, true, false, if◌then◌else◌, List, [], ◌∷◌, ◌++◌, map, reverse}
+use Rattle.std.specs.Prelude.{ℕ, zero, suc, ◌==◌, ℤ, pos, negsuc, ◌+ℤ◌, neg_ℤ, true}
+use Rattle.std.specs.Prelude.{false, if◌then◌else◌, List, [], ◌∷◌, ◌++◌, map, reverse}
 use Rattle.std.specs.List.{fold}
 use Rattle.std.proofs.lemmas.Int.{ints}
 use Rattle.std.proofs.Math.IntN.{+ℤ_invr, +ℤ_invl}
@@ -49,11 +50,13 @@ is_zero-true (pos zero) e = refl
 is_zero-true (pos (suc n)) e = cc
 is_zero-true (negsuc n) e = cc
 
-taken-push-cons : (q : Pair) (w : List Pair) (p : Pair) → is_zero q.power ≡ false → taken_onto (q ∷ w) p ≡ push p (q ∷ w)
+taken-push-cons : (q : Pair) (w : List Pair) (p : Pair) → is_zero q.power ≡ false →
+    taken_onto (q ∷ w) p ≡ push p (q ∷ w)
 taken-push-cons q w p h =
     by_test (is_zero p.power)
     (λ e. by_test (q.datum == p.datum)
-    (λ f. let z = is_zero-true p.power e in let same = eqb-true q.datum p.datum f in rw (e, f, z, add-zero_ℤ, h, ← same) refl)
+    (λ f. let z = is_zero-true p.power e in let same = eqb-true q.datum p.datum f in
+    rw (e, f, z, add-zero_ℤ, h, ← same) refl)
     (λ f. rw (e, f, zero-add_ℤ, e) refl))
     (λ e. by_test (q.datum == p.datum)
     (λ f. let same = eqb-true q.datum p.datum f in rw (e, f, ← same) refl)
@@ -119,14 +122,21 @@ front-lead d (q ∷ w) r = front-lead-cons r.0
 
 -- ---- the laws of pushing
 pub IsReduced-push : (p : Pair) (w : List Pair) → IsReduced w → IsReduced (push p w)
-IsReduced-push p w r = IsReduced-front p.datum (lead p.datum w +ℤ p.power) (after p.datum w) (IsApart-after p.datum w r) (IsReduced-after p.datum w r)
+IsReduced-push p w r =
+    IsReduced-front p.datum (lead p.datum w +ℤ p.power) (after p.datum w) (IsApart-after p.datum w r)
+    (IsReduced-after p.datum w r)
 
 add_assoc_ℤ : (a b c : ℤ) → (a +ℤ b) +ℤ c ≡ a +ℤ (b +ℤ c)
 add_assoc_ℤ a b c = omega (arith, ints)
 
-pub push-push : (d : ℕ) (a b : ℤ) (w : List Pair) → IsReduced w → push (pair d a) (push (pair d b) w) ≡ push (pair d (b +ℤ a)) w
+pub push-push : (d : ℕ) (a b : ℤ) (w : List Pair) → IsReduced w →
+    push (pair d a) (push (pair d b) w) ≡ push (pair d (b +ℤ a)) w
 push-push d a b w r =
-    rw (lead-front d (lead d w +ℤ b) (after d w) (IsApart-after d w r), after-front d (lead d w +ℤ b) (after d w) (IsApart-after d w r), add_assoc_ℤ) refl
+    rw (
+      lead-front d (lead d w +ℤ b) (after d w) (IsApart-after d w r),
+      after-front d (lead d w +ℤ b) (after d w) (IsApart-after d w r),
+      add_assoc_ℤ,
+    ) refl
 
 pub push-zero : (d : ℕ) (w : List Pair) → IsReduced w → push (pair d (pos 0)) w ≡ w
 push-zero d w r = rw add-zero_ℤ (front-lead d w r)
@@ -177,7 +187,8 @@ back-push w [] p r = back-front p.datum (pos 0 +ℤ p.power) w [] r ∙ rw zero-
 back-push w (q ∷ v) p r =
     by_test (q.datum == p.datum)
     (λ e. let same = eqb-true q.datum p.datum e in
-    rw e (back-front p.datum (q.power +ℤ p.power) w v r ∙ sym (push-push p.datum p.power q.power (back w v) (IsReduced-back w v r)) ∙ rw (← same) refl))
+    rw e (back-front p.datum (q.power +ℤ p.power) w v r ∙
+    sym (push-push p.datum p.power q.power (back w v) (IsReduced-back w v r)) ∙ rw (← same) refl))
     (λ e. rw (e, zero-add_ℤ) (back-front p.datum p.power w (q ∷ v) r))
 
 back-act : (w v l : List Pair) → IsReduced w → back w (act v l) ≡ act (back w v) l
@@ -194,11 +205,13 @@ norm-norm l = norm-act (norm l) ∙ ap reverse (act-norm [] l tt) ∙ sym (norm-
 
 pub norm-append_left : (xs ys : List Pair) → norm (norm xs ++ ys) ≡ norm (xs ++ ys)
 norm-append_left xs ys =
-    norm-act (norm xs ++ ys) ∙ ap reverse (act-append [] (norm xs) ys ∙ ap (λ x. act x ys) (act-norm [] xs tt) ∙ sym (act-append [] xs ys)) ∙ sym (norm-act (xs ++ ys))
+    norm-act (norm xs ++ ys) ∙ ap reverse (act-append [] (norm xs) ys ∙ ap (λ x. act x ys) (act-norm [] xs tt) ∙
+    sym (act-append [] xs ys)) ∙ sym (norm-act (xs ++ ys))
 
 pub norm-append_right : (xs ys : List Pair) → norm (xs ++ norm ys) ≡ norm (xs ++ ys)
 norm-append_right xs ys =
-    norm-act (xs ++ norm ys) ∙ ap reverse (act-append [] xs (norm ys) ∙ act-norm (act [] xs) ys (IsReduced-act [] xs tt) ∙ sym (act-append [] xs ys)) ∙ sym (norm-act (xs ++ ys))
+    norm-act (xs ++ norm ys) ∙ ap reverse (act-append [] xs (norm ys) ∙
+    act-norm (act [] xs) ys (IsReduced-act [] xs tt) ∙ sym (act-append [] xs ys)) ∙ sym (norm-act (xs ++ ys))
 
 pub mul_assoc : (a b c : List Pair) → mul a (mul b c) ≡ mul (mul a b) c
 mul_assoc a b c = norm-append_left (c ++ b) a ∙ ap norm (append_assoc c b a) ∙ sym (norm-append_right c (b ++ a))
@@ -305,7 +318,9 @@ IsWord-inverse w h =
 
 -- the inverse of a product is the product of the inverses, the other way round
 pub inverse-product : (a b : List Pair) → inverse (mul a b) ≡ mul (inverse b) (inverse a)
-inverse-product a b = sym (sym y-word ∙ ap (mul y) (sym (mul-inverse m)) ∙ mul_assoc y m x ∙ ap (λ z. mul z x) y-m ∙ empty-mul x ∙ IsWord-inverse m (IsWord-mul a b))
+inverse-product a b =
+    sym (sym y-word ∙ ap (mul y) (sym (mul-inverse m)) ∙ mul_assoc y m x ∙ ap (λ z. mul z x) y-m ∙ empty-mul x ∙
+    IsWord-inverse m (IsWord-mul a b))
   where
     m : List Pair
     m = mul a b
@@ -323,4 +338,5 @@ inverse-product a b = sym (sym y-word ∙ ap (mul y) (sym (mul-inverse m)) ∙ m
     cancelled = mul_assoc (inverse a) a b ∙ ap (λ z. mul z b) (inverse-mul a) ∙ empty-mul b
 
     y-m : mul y m ≡ []
-    y-m = sym (mul_assoc (inverse b) (inverse a) m) ∙ ap (mul (inverse b)) cancelled ∙ norm-append_left b (inverse b) ∙ inverse-mul b
+    y-m = sym (mul_assoc (inverse b) (inverse a) m) ∙ ap (mul (inverse b)) cancelled ∙ norm-append_left b (inverse b) ∙
+        inverse-mul b

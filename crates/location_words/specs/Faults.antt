@@ -1,5 +1,6 @@
 -- Why a word is refused.
-use Rattle.std.specs.Prelude.{◌≡◌, ℕ, zero, suc, ℤ, nat_abs, nat_lt, nat_le, List, [], ◌∷◌, length, Option, Some, None, if◌then◌else◌}
+use Rattle.std.specs.Prelude.{◌≡◌, ℕ, zero, suc, ℤ, nat_abs, nat_lt, nat_le, List}
+use Rattle.std.specs.Prelude.{[], ◌∷◌, length, Option, Some, None, if◌then◌else◌}
 use Rattle.std.specs.Option.{option_map, option_or}
 use Rattle.location_words.specs.declared.pair.Pair.{Pair}
 use Rattle.location_words.specs.declared.fault.WordFault.{WordFault}
@@ -20,7 +21,8 @@ abbrev pub fault_of_times : List Pair → ℕ → Option WordFault
 fault_of_times w zero = None
 fault_of_times w (suc n) = option_or (fault_of_times w n) (fault_of (times w (suc n)))
 
--- why a power is refused: where the word has at most one pair the power alone is tested, and else the products of its first factors
+-- why a power is refused: where the word has at most one pair the power alone is tested, and else the products of its
+-- first factors
 abbrev pub fault_of_power : List Pair → ℤ → Option WordFault
 fault_of_power w p = if nat_le (length w) 1 then fault_of (power w p) else fault_of_times (factor w p) (nat_abs p)
 

@@ -7,7 +7,8 @@ use Rattle.location_words.specs.Products.{product}
 
 -- one of the two ways in which a list of pairs becomes shorter: neighbours of one datum are added, or a power of 0 goes
 pub data Shortens : List Pair → List Pair → Type 0 where
-  adds : (before behind : List Pair) (d : ℕ) (p q : ℤ) → Shortens (before ++ (pair d p ∷ pair d q ∷ behind)) (before ++ (pair d (p +ℤ q) ∷ behind))
+  adds : (before behind : List Pair) (d : ℕ) (p q : ℤ) →
+      Shortens (before ++ (pair d p ∷ pair d q ∷ behind)) (before ++ (pair d (p +ℤ q) ∷ behind))
   drops : (before behind : List Pair) (d : ℕ) → Shortens (before ++ (pair d (pos 0) ∷ behind)) (before ++ behind)
 
 -- a chain of such steps
@@ -19,8 +20,8 @@ pub data Chain : List Pair → List Pair → Type 0 where
 abbrev pub IsEnd : List Pair → Type 0
 IsEnd l = (m : List Pair) → Shortens l m → ⊥
 
--- reduction: each step makes the list shorter, so every chain comes to an end; norm is reached by a chain, and every chain that is at
--- an end has come to norm. The words are the lists at which no step is left
+-- reduction: each step makes the list shorter, so every chain comes to an end; norm is reached by a chain, and every
+-- chain that is at an end has come to norm. The words are the lists at which no step is left
 pub record ReductionEnds : Type 0 where
   pub steps_shorten : (l m : List Pair) → Shortens l m → length m < length l
   pub norm_is_reached : (l : List Pair) → Chain l (norm l)
@@ -28,7 +29,8 @@ pub record ReductionEnds : Type 0 where
   pub end_of_chains : (l m : List Pair) → Chain l m → IsEnd m → m ≡ norm l
   pub words_are_ends : (l : List Pair) → IsWord l ↔ IsEnd l
 
--- words are a group: the product is associative, the empty word is its identity, and the inverse gives inverses on both sides
+-- words are a group: the product is associative, the empty word is its identity, and the inverse gives inverses on both
+-- sides
 pub record WordsAreAGroup : Type 0 where
   pub associative : (a b c : List Pair) → mul a (mul b c) ≡ mul (mul a b) c
   pub identity_inner : (w : List Pair) → IsWord w → mul w [] ≡ w

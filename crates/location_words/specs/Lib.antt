@@ -3,5 +3,7 @@ pub mod Faults
 pub mod Laws
 pub mod Sums
 pub mod Products
+pub mod Seams
+pub mod Hashed
 pub mod Equal
 pub mod Tables

@@ -1,5 +1,6 @@
 -- Words: reduced lists of powers of datums, innermost factor first.
-use Rattle.std.specs.Prelude.{◌≡◌, ◌≤◌, ◌^◌, length, All, nat_abs, ℕ, zero, suc, ◌==◌, ℤ, pos, negsuc, ◌+ℤ◌, neg_ℤ, Bool, true, false, nat_eq, if◌then◌else◌, List, [], ◌∷◌, ◌++◌, map, reverse, fold}
+use Rattle.std.specs.Prelude.{◌≡◌, ◌≤◌, ◌^◌, length, All, nat_abs, ℕ, zero, suc, ◌==◌, ℤ, pos, negsuc, ◌+ℤ◌, neg_ℤ}
+use Rattle.std.specs.Prelude.{Bool, true, false, nat_eq, if◌then◌else◌, List, [], ◌∷◌, ◌++◌, map, reverse, fold}
 use Rattle.std.specs.Ordering.{eq_of_both, on, int_eq}
 use Rattle.std.specs.Cmp.Lexicographic.{pointwise}
 use Rattle.location_words.specs.declared.pair.Pair.{Pair}
@@ -14,9 +15,9 @@ is_zero (negsuc n) = false
 abbrev pub pair : ℕ → ℤ → Pair
 pair d p = record { datum = d; power = p }
 
--- the result with one more pair taken onto its end. The result is given from its last pair to its first, so its end is the
--- head here: a pair of power 0 adds nothing, a pair of the last pair's datum adds its power there, a sum of 0 drops that
--- pair, and any other pair is appended
+-- the result with one more pair taken onto its end. The result is given from its last pair to its first, so its end is
+-- the head here: a pair of power 0 adds nothing, a pair of the last pair's datum adds its power there, a sum of 0 drops
+-- that pair, and any other pair is appended
 abbrev pub taken_onto : List Pair → Pair → List Pair
 taken_onto [] p = if is_zero p.power then [] else p ∷ []
 taken_onto (last ∷ earlier) p =

@@ -1,5 +1,5 @@
 -- Tables that number words.
-use Rattle.std.specs.Prelude.{◌≡◌, ℕ, All, List, [], ◌∷◌, ◌++◌, Option, Some, slice_get, position, if◌then◌else◌}
+use Rattle.std.specs.Prelude.{◌≡◌, ◌↔◌, ℕ, All, List, [], ◌∷◌, ◌++◌, Option, Some, slice_get, position, if◌then◌else◌}
 use Rattle.std.specs.List.{list_any}
 use Rattle.location_words.specs.declared.pair.Pair.{Pair}
 use Rattle.location_words.specs.Pairs.{pairs_eq, IsHeldWord}
@@ -12,7 +12,12 @@ entered table w = if list_any (pairs_eq w) table then table else table ++ w ∷ 
 abbrev pub number_of : List (List Pair) → List Pair → Option ℕ
 number_of table w = position (pairs_eq w) table
 
--- a table numbers words: the identity has the number 0, each entry is a word within the limits, and no word has two numbers
+-- of the table's words the number is that of this one alone
+abbrev pub TellsApart : List (List Pair) → List Pair → ℕ → Type 0
+TellsApart table w n = (i : ℕ) (v : List Pair) → slice_get table i ≡ Some v → (i ≡ n) ↔ (v ≡ w)
+
+-- a table numbers words: the identity has the number 0, each entry is a word within the limits, and no word has two
+-- numbers
 pub record IsTable (table : List (List Pair)) : Type 0 where
   pub identity : slice_get table 0 ≡ Some []
   pub words : All IsHeldWord table

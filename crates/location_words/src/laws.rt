@@ -1,4 +1,5 @@
-ghost use Rattle.location_words.specs.Laws.{LimitsTell, PairsMakeWords, ProductsJoin, ReductionEnds, TestTells, WordsAreAGroup};
+ghost use Rattle.location_words.specs.Laws.{LimitsTell, PairsMakeWords, ProductsJoin};
+ghost use Rattle.location_words.specs.Laws.{ReductionEnds, TestTells, WordsAreAGroup};
 
 /// Reducing a list of pairs, in whatever order of steps, comes to one end: its word.
 pub fn reduction_ends()

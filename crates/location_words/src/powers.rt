@@ -1,5 +1,6 @@
 //! Powers of words.
-ghost use Rattle.std.specs.Prelude.{◌≡◌, ◌≢◌, ◌≤◌, ◌⊎◌, ◌^◌, ◌*ℤ◌, [], ◌∷◌, None, length, nat_abs, Err, IfErr, IfOk, OnOk};
+ghost use Rattle.std.specs.Prelude.{◌≡◌, ◌≢◌, ◌≤◌, ◌⊎◌, ◌^◌, ◌*ℤ◌, [], ◌∷◌, None};
+ghost use Rattle.std.specs.Prelude.{length, nat_abs, Err, IfErr, IfOk, OnOk};
 ghost use Rattle.location_words.specs.Faults.{fault_of, fault_of_power, fault_of_times, IsDueFault};
 ghost use Rattle.location_words.specs.Pairs.{power as power_of, times as times_of};
 
@@ -10,8 +11,8 @@ use std::alloc::Global;
 
 /// The product of `p` factors `w`, or of `-p` inverses. A word of more than one pair takes at most 1,024 factors.
 ///
-/// The one power of a word of one pair is multiplied, whatever `p`. For a longer word the products of its first factors are
-/// tested one after another, and the first that is no word decides.
+/// The one power of a word of one pair is multiplied, whatever `p`. For a longer word the products of its first factors
+/// are tested one after another, and the first that is no word decides.
 pub fn power(w: &Word, p: i64) -> Result<Word, WordFault>
     requires { (length w.now ≤ 1) ⊎ (nat_abs p ≤ 1024) }
     ensures ok { IfOk result (λ v. v ≡ power_of w.now p) }

@@ -1,9 +1,12 @@
 //! Products of words.
-ghost use Rattle.std.specs.Prelude.{◌≡◌, ◌^◌, All, nat_abs, ◌≢◌, ◌≤◌, ◌<◌, ℕ, ◌+◌, ◌-◌, pos, ◌+ℤ◌, List, ◌++◌, None, drop, length, map, option_to_list, slice_index_or, sum_by, take, Err, IfErr, IfOk, IsOk, OnOk};
+ghost use Rattle.std.specs.Prelude.{◌≡◌, ◌^◌, ◌≢◌, ◌≤◌, ◌<◌, ◌+◌, ◌-◌};
+ghost use Rattle.std.specs.Prelude.{◌++◌, None, length, map, option_to_list};
+ghost use Rattle.std.specs.Prelude.{sum_by, Err, IfErr, IfOk, IsOk, OnOk};
 ghost use Rattle.location_words.specs.declared.pair.Pair.{Pair};
 ghost use Rattle.location_words.specs.Faults.{fault_of, large_power, IsDueFault};
-ghost use Rattle.location_words.specs.Pairs.{mul as mul_of, norm, AllSmall, IsHeldWord};
-ghost use Rattle.location_words.specs.Sums.{as_pair};
+ghost use Rattle.location_words.specs.Pairs.{mul as mul_of, norm, AllSmall, IsHeldWord, IsWord};
+ghost use Rattle.location_words.specs.Seams.{count_of_three, in_three, left_past, sewn, IsNoLonger, StopsPast};
+ghost use Rattle.location_words.specs.Sums.{as_pair, IsWithin};
 ghost use Rattle.location_words.specs.Products.{product as product_of};
 
 use crate::fault::{MOST_PAIRS, MOST_POWER};
@@ -32,8 +35,8 @@ pub fn mul(outer: &Word, inner: &Word) -> Result<Word, WordFault>
     )
 }
 
-/// How two words meet: the first pairs of the one that stay, the pair that their meeting ones make, if any, and how many of the
-/// other's first pairs go.
+/// How two words meet: the first pairs of the one that stay, the pair that their meeting ones make, if any, and how
+/// many of the other's first pairs go.
 #[derive(Clone, Copy)]
 struct Seam {
     kept: usize,
@@ -47,8 +50,8 @@ fn seam_of(inner: &[Pair], outer: &[Pair]) -> Seam
     requires outer { IsHeldWord outer.now }
     ensures kept { result.kept ≤ length inner.now }
     ensures dropped { result.dropped ≤ length outer.now }
-    ensures shorter { result.kept + length (option_to_list result.joined) + (length outer.now - result.dropped) ≤ length inner.now + length outer.now }
-    ensures whole { take result.kept inner.now ++ option_to_list result.joined ++ drop result.dropped outer.now ≡ norm (inner.now ++ outer.now) }
+    ensures shorter { IsNoLonger result inner.now outer.now }
+    ensures whole { sewn result inner.now outer.now ≡ norm (inner.now ++ outer.now) }
 {
     let gone = cancelled(inner, outer);
     let kept = inner.len() - gone;
@@ -80,10 +83,8 @@ fn cancelled(inner: &[Pair], outer: &[Pair]) -> usize
     requires outer { IsHeldWord outer.now }
     ensures of_inner { result ≤ length inner.now }
     ensures of_outer { result ≤ length outer.now }
-    ensures same { norm (take (length inner.now - result) inner.now ++ drop result outer.now) ≡ norm (inner.now ++ outer.now) }
-    ensures stops { (d : Pair) → result < length inner.now → result < length outer.now
-        → (slice_index_or inner.now (length inner.now - result - 1) d).datum ≡ (slice_index_or outer.now result d).datum
-        → (slice_index_or inner.now (length inner.now - result - 1) d).power +ℤ (slice_index_or outer.now result d).power ≢ pos 0 }
+    ensures same { norm (left_past result inner.now outer.now) ≡ norm (inner.now ++ outer.now) }
+    ensures stops { StopsPast result inner.now outer.now }
 {
     let most = inner.len().min(outer.len());
     for gone in 0..most {
@@ -105,11 +106,11 @@ fn joined(
 ) -> Result<Word, WordFault>
     requires few { (length kept.now ≤ 4096) × (length rest.now ≤ 4096) }
     requires small { AllSmall kept.now × AllSmall rest.now }
-    requires word { norm (kept.now ++ option_to_list middle ++ rest.now) ≡ kept.now ++ option_to_list middle ++ rest.now }
-    ensures ok { IfOk result (λ w. w ≡ kept.now ++ option_to_list middle ++ rest.now) }
-    ensures within { OnOk result (fault_of (kept.now ++ option_to_list middle ++ rest.now) ≡ None) }
-    ensures refused { IfErr result (λ fault. IsDueFault (fault_of (kept.now ++ option_to_list middle ++ rest.now)) fault) }
-    ensures inline { length kept.now + length (option_to_list middle) + length rest.now ≤ 4 → result ≢ Err WordFault.NoMemory }
+    requires word { IsWord (in_three kept.now middle rest.now) }
+    ensures ok { IfOk result (λ w. w ≡ in_three kept.now middle rest.now) }
+    ensures within { OnOk result (fault_of (in_three kept.now middle rest.now) ≡ None) }
+    ensures refused { IfErr result (λ fault. IsDueFault (fault_of (in_three kept.now middle rest.now)) fault) }
+    ensures inline { count_of_three (length kept.now) middle (length rest.now) ≤ 4 → result ≢ Err WordFault.NoMemory }
 {
     let count = kept.len() + usize::from(middle.is_some()) + rest.len();
     if count > MOST_PAIRS {
@@ -139,9 +140,9 @@ fn copied(
     middle: Option<Pair>,
     rest: &[Pair],
 ) -> Result<SmallVec<Pair, 4>, AllocError>
-    requires { length kept.now + length (option_to_list middle) + length rest.now ≤ 4096 }
-    ensures ok { IfOk result (λ pairs. pairs.items ≡ kept.now ++ option_to_list middle ++ rest.now) }
-    ensures inline { length kept.now + length (option_to_list middle) + length rest.now ≤ 4 → IsOk result }
+    requires { count_of_three (length kept.now) middle (length rest.now) ≤ 4096 }
+    ensures ok { IfOk result (λ pairs. pairs.items ≡ in_three kept.now middle rest.now) }
+    ensures inline { count_of_three (length kept.now) middle (length rest.now) ≤ 4 → IsOk result }
 {
     let count = kept.len() + usize::from(middle.is_some()) + rest.len();
     let mut pairs = SmallVec::with_capacity(alloc, count)?;
@@ -153,8 +154,8 @@ fn copied(
     Ok(pairs)
 }
 
-/// The product of words, outermost factor first, of which only the whole is tested against the limits: a product of some of the
-/// factors may pass them.
+/// The product of words, outermost factor first, of which only the whole is tested against the limits: a product of
+/// some of the factors may pass them.
 pub fn product(alloc: Global, factors: &[&Word]) -> Result<Word, WordFault>
     ensures ok { IfOk result (λ w. w ≡ product_of (map (λ w. w.now) factors.now)) }
     ensures within { OnOk result (fault_of (product_of (map (λ w. w.now) factors.now)) ≡ None) }
@@ -170,7 +171,7 @@ pub fn product(alloc: Global, factors: &[&Word]) -> Result<Word, WordFault>
 /// The reduced pairs of all factors, the innermost one's first.
 fn summed(alloc: Global, factors: &[&Word]) -> Result<SmallVec<Wide, 4>, AllocError>
     ensures ok { IfOk result (λ sum. map as_pair sum.items ≡ product_of (map (λ w. w.now) factors.now)) }
-    ensures fits { IfOk result (λ sum. All (λ q. nat_abs q.power ≤ 2 ^ 126) sum.items) }
+    ensures fits { IfOk result (λ sum. IsWithin (2 ^ 126) sum.items) }
     ensures len { IfOk result (λ sum. length sum.items ≤ sum_by (λ w. length w.now) factors.now) }
     ensures inline { sum_by (λ w. length w.now) factors.now ≤ 4 → IsOk result }
 {

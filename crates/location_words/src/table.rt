@@ -1,8 +1,9 @@
 //! The table that gives words their numbers.
-ghost use Rattle.std.specs.Prelude.{◌≡◌, ◌≢◌, ◌<◌, ◌↔◌, ℕ, List, [], ◌∷◌, Some, Contains, length, slice_get, IfNone, IfOk, IfSome, IsOk, OnErr, OnOk};
+ghost use Rattle.std.specs.Prelude.{◌≡◌, ◌≢◌, ◌<◌, ℕ, List, [], ◌∷◌, Some, Contains};
+ghost use Rattle.std.specs.Prelude.{length, slice_get, IfNone, IfOk, IfSome, IsOk, OnErr, OnOk};
 ghost use Rattle.location_words.specs.declared.pair.Pair.{Pair};
 ghost use Rattle.location_words.specs.Pairs.{IsHeldWord};
-ghost use Rattle.location_words.specs.Tables.{entered, IsTable};
+ghost use Rattle.location_words.specs.Tables.{entered, IsTable, TellsApart};
 
 use crate::Word;
 use indexmap::IndexSet;
@@ -13,7 +14,8 @@ use std::marker::Model;
 #[derive(Clone, Copy, Debug, PartialEq, Eq, Hash)]
 pub struct WordId(pub usize);
 
-/// A table of words, in which equal words have one number and different words different ones. The identity has the number 0.
+/// A table of words, in which equal words have one number and different words different ones. The identity has the
+/// number 0.
 #[derive(Drop)]
 pub struct Words {
     words: IndexSet<Word>,
@@ -45,7 +47,7 @@ impl Words {
     /// The number of a word, which is entered where the table doesn't hold it yet. Only then memory may be wanting.
     pub fn intern(&mut self, w: Word) -> Result<WordId, AllocError>
         ensures held { IfOk result (λ id. slice_get self.new id.0 ≡ Some w) }
-        ensures same { IfOk result (λ id. (i : ℕ) (v : List Pair) → slice_get self.new i ≡ Some v → (i ≡ id.0) ↔ (v ≡ w)) }
+        ensures same { IfOk result (λ id. TellsApart self.new w id.0) }
         ensures entered { OnOk result (self.new ≡ entered self.old w) }
         ensures err { OnErr result (self.new ≡ self.old) }
         ensures known { Contains self.old w → IsOk result }

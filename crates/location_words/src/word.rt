@@ -9,7 +9,8 @@ use smallvec::SmallVec;
 use std::alloc::{AllocError, Global};
 use std::marker::Model;
 
-/// A reduced product of powers of datums, innermost factor first: no power is 0, and no two neighbours are of one datum.
+/// A reduced product of powers of datums, innermost factor first: no power is 0, and no two neighbours are of one
+/// datum.
 ///
 /// It has at most 4,096 pairs, and no power of a size past 1,099,511,627,776. Up to four pairs take no memory.
 #[derive(Debug, Drop)]

@@ -1,10 +1,11 @@
 //! The standard traits at `Word`.
-ghost use Rattle.std.specs.Prelude.{◌≡◌, ◌≤◌, ◌++◌, length, MatchResult};
+ghost use Rattle.std.specs.Prelude.{◌≡◌, ◌≤◌, length, MatchResult};
 ghost use Rattle.std.specs.Cmp.Rules.{comparing};
 ghost use Rattle.std.specs.Hash as fed;
 ghost use Rattle.std.proofs.Common.{ap, rules};
 ghost use Rattle.location_words.specs.Equal.{pairs_decide};
 ghost use Rattle.location_words.specs.Pairs.{pairs_eq};
+ghost use Rattle.location_words.specs.Hashed.{word_input};
 
 use crate::Word;
 use smallvec::SmallVec;
@@ -39,9 +40,9 @@ impl Eq for Word {
 }
 
 impl Hash for Word {
-    ghost hash_input = { λ w. fed.slice (λ p. fed.u32 p.datum ++ fed.i64 p.power) w };
+    ghost hash_input = { λ w. word_input w };
 
-    ghost respects_eq = { λ v w h. ap (λ l. fed.slice (λ p. fed.u32 p.datum ++ fed.i64 p.power) l) ((pairs_decide v w).0 h) };
+    ghost respects_eq = { λ v w h. ap word_input ((pairs_decide v w).0 h) };
 
     fn hash<H: Hasher>(&self, state: &mut H) {
         self.pairs.as_slice().hash(state);

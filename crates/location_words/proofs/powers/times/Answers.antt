@@ -11,4 +11,5 @@ returns-in_err-product-clause-refused c =
     let p = err_from_is_err_and c.from_residual.result c.from_residual.ensures.1 in
     rw (p.1, p.2)
     (times-due c.args.factor.now c.loop.counter c.args.n c.in_err-product.field-0.0 c.loop.invariant.words
-    (subst (λ l. IsDueFault (fault_of (mul l c.args.factor.now)) c.in_err-product.field-0.0) c.loop.invariant.made c.in_err-product.ensures.refused) c.loop-test.true)
+    (subst (λ l. IsDueFault (fault_of (mul l c.args.factor.now)) c.in_err-product.field-0.0) c.loop.invariant.made
+    c.in_err-product.ensures.refused) c.loop-test.true)

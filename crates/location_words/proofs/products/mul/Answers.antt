@@ -5,5 +5,6 @@ use Rattle.location_words.proofs.products.mul.Goals as goal
 
 pub joined-requires-clause-word : goal.joined-requires-clause-word
 joined-requires-clause-word c =
-    whole-word (take c.seam_of-seam.result.kept c.as_slice-first.result.now ++ option_to_list c.seam_of-seam.result.joined) c.as_slice-second.result.now c.seam_of-seam.result.dropped
+    whole-word (take c.seam_of-seam.result.kept c.as_slice-first.result.now ++
+    option_to_list c.seam_of-seam.result.joined) c.as_slice-second.result.now c.seam_of-seam.result.dropped
     (c.as_slice-first.result.now ++ c.as_slice-second.result.now) c.seam_of-seam.ensures.whole

@@ -19,14 +19,19 @@ loop-p-preserved c =
       long = omega (arith, c.in_ok-take_onto.ensures.len, c.loop-p.invariant.long);
       room = omega (arith, c.in_ok-take_onto.ensures.capacity, c.loop-p.invariant.room);
       fits = let b : nat_abs p.power ≤ 2 ^ 63 = c.take_onto.ensures.size in
-          All-weaker (λ (w : Wide). nat_abs w.power ≤ 2 ^ 125 + i * 2 ^ 63 + nat_abs p.power) (λ (w : Wide). nat_abs w.power ≤ 2 ^ 125 + (i + 1) * 2 ^ 63) (λ w h. omega arith) c.take_onto.new.so_far.items
+          All-weaker (λ (w : Wide). nat_abs w.power ≤ 2 ^ 125 + i * 2 ^ 63 + nat_abs p.power)
+          (λ (w : Wide). nat_abs w.power ≤ 2 ^ 125 + (i + 1) * 2 ^ 63) (λ w h. omega arith)
+          c.take_onto.new.so_far.items
           (c.in_ok-take_onto.ensures.grows (2 ^ 125 + i * 2 ^ 63) c.loop-p.invariant.fits);
       grows = λ n m h k. let b : nat_abs p.power ≤ m = k i (pair 0 (pos 0)) c.loop-p-test.true in
-          All-weaker (λ (w : Wide). nat_abs w.power ≤ n + i * m + nat_abs p.power) (λ (w : Wide). nat_abs w.power ≤ n + (i + 1) * m) (λ w g. omega arith) c.take_onto.new.so_far.items
+          All-weaker (λ (w : Wide). nat_abs w.power ≤ n + i * m + nat_abs p.power)
+          (λ (w : Wide). nat_abs w.power ≤ n + (i + 1) * m) (λ w g. omega arith) c.take_onto.new.so_far.items
           (c.in_ok-take_onto.ensures.grows (n + i * m) (c.loop-p.invariant.grows n m h k));
     }
 
 pub returns-clause-grows : goal.returns-clause-grows
 returns-clause-grows c = λ n m h k.
-    let same : c.loop-p.p-index ≡ length c.args.pairs.now = omega (arith, c.loop-p.auto.p-index-end, c.loop-p-test.false) in
-    subst (λ i. All (λ (w : Wide). nat_abs w.power ≤ n + i * m) c.loop-p.so_far.items) same (c.loop-p.invariant.grows n m h k)
+    let same : c.loop-p.p-index ≡ length c.args.pairs.now =
+    omega (arith, c.loop-p.auto.p-index-end, c.loop-p-test.false) in
+    subst (λ i. All (λ (w : Wide). nat_abs w.power ≤ n + i * m) c.loop-p.so_far.items) same
+    (c.loop-p.invariant.grows n m h k)

@@ -15,5 +15,7 @@ invariant-loop-p l = record {
   long : small_vec_len l.so_far ≤ small_vec_len l.fn.so_far + l.p-index;
   room : l.fn.so_far.capacity ≤ l.so_far.capacity;
   fits : All (λ (q : Wide). nat_abs q.power ≤ 2 ^ 125 + l.p-index * 2 ^ 63) l.so_far.items;
-  grows : (n m : ℕ) → All (λ (q : Wide). nat_abs q.power ≤ n) l.fn.so_far.items → All (λ (p : Pair). nat_abs p.power ≤ m) l.pairs → All (λ (q : Wide). nat_abs q.power ≤ n + l.p-index * m) l.so_far.items;
+  grows : (n m : ℕ) → All (λ (q : Wide). nat_abs q.power ≤ n) l.fn.so_far.items →
+      All (λ (p : Pair). nat_abs p.power ≤ m) l.pairs →
+      All (λ (q : Wide). nat_abs q.power ≤ n + l.p-index * m) l.so_far.items;
 }

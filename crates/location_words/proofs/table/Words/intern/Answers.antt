@@ -7,10 +7,16 @@ use Rattle.location_words.proofs.TableLemmas.{Table, entered-table, entered-kept
 use Rattle.location_words.proofs.table.Words.intern.Goals as goal
 
 pub returns-in_err-index-clause-known : goal.returns-in_err-index-clause-known
-returns-in_err-index-clause-known c = λ k. absurd (true≢false (sym (found-contained c.args.self.now c.args.w k) ∙ ap (λ (l : Table). list_any (pairs_eq c.args.w) l) (sym c.self.view_is) ∙ c.in_err-index.ensures.absent))
+returns-in_err-index-clause-known c =
+    λ k.
+    absurd
+    (true≢false (sym (found-contained c.args.self.now c.args.w k) ∙
+    ap (λ (l : Table). list_any (pairs_eq c.args.w) l) (sym c.self.view_is) ∙ c.in_err-index.ensures.absent))
 
 pub invariant_of-self-2 : goal.invariant_of-self-2
-invariant_of-self-2 c = entered-table c.self.inside.words.keys c.insert_full.new.self.keys c.args.w c.in_ok-index.ensures.keys c.self.invariant (subst IsHeldWord c.w.view_is c.w.invariant) c.insert_full.ensures.unique
+invariant_of-self-2 c =
+    entered-table c.self.inside.words.keys c.insert_full.new.self.keys c.args.w c.in_ok-index.ensures.keys
+    c.self.invariant (subst IsHeldWord c.w.view_is c.w.invariant) c.insert_full.ensures.unique
 
 pub returns-clause-table : goal.returns-clause-table
 returns-clause-table c = invariant_of-self-2 c
@@ -21,8 +27,11 @@ returns-clause-held c =
     s.1 ∙ ap Some (sym ((pairs_decide c.args.w s.0).0 s.2))
 
 pub returns-clause-same : goal.returns-clause-same
-returns-clause-same c = same-number c.insert_full.new.self.keys c.args.w c.in_ok-index.index (returns-clause-held c) c.insert_full.ensures.unique
+returns-clause-same c =
+    same-number c.insert_full.new.self.keys c.args.w c.in_ok-index.index (returns-clause-held c)
+    c.insert_full.ensures.unique
 
 pub returns-clause-kept : goal.returns-clause-kept
 returns-clause-kept c = λ i v h.
-    subst (λ (l : Table). slice_get l i ≡ Some v) (sym c.in_ok-index.ensures.keys) (entered-kept c.self.inside.words.keys c.args.w v i (ap (λ (l : Table). slice_get l i) c.self.view_is ∙ h))
+    subst (λ (l : Table). slice_get l i ≡ Some v) (sym c.in_ok-index.ensures.keys)
+    (entered-kept c.self.inside.words.keys c.args.w v i (ap (λ (l : Table). slice_get l i) c.self.view_is ∙ h))

@@ -4,4 +4,6 @@ use Rattle.location_words.proofs.word.Word.of.Goals as goal
 
 pub within-requires-clause-reduced : goal.within-requires-clause-reduced
 within-requires-clause-reduced c = rw c.as_slice.ensures
-    (reduced-word c.take_all.new.so_far.items c.args.pairs.now (reduced-norm c.new-sum.result.items c.take_all.new.so_far.items c.args.pairs.now c.new-sum.ensures.items c.in-Ok.ensures.ok))
+    (reduced-word c.take_all.new.so_far.items c.args.pairs.now
+    (reduced-norm c.new-sum.result.items c.take_all.new.so_far.items c.args.pairs.now c.new-sum.ensures.items
+    c.in-Ok.ensures.ok))
