@@ -10,7 +10,10 @@ use Rattle.expansion_laws.specs.Expansion.{expansion, tree_of_number}
 use Rattle.expansion_laws.specs.Rewriting.{results_within}
 use Rattle.expansion_laws.specs.Visits.{visits_within}
 use Rattle.expansion_laws.specs.Graph.{IsFirstCycle}
-use Rattle.expansion_laws.specs.Examples.{plus, wires, by_wire, after_wire, faces, by_vertex, after_vertex, solids, at_place, after_place, under_turn, turned_root, pairs, in_cycle, cycle_walk, doubled, by_leaf, twice, placed, at_one, after_one, visited_words, ExamplesComeOut}
+use Rattle.expansion_laws.specs.Examples.{plus, wires, by_wire, after_wire, faces, by_vertex, after_vertex}
+use Rattle.expansion_laws.specs.Examples.{solids, at_place, after_place, under_turn, turned_root, pairs}
+use Rattle.expansion_laws.specs.Examples.{in_cycle, cycle_walk, doubled, by_leaf, twice, placed, at_one}
+use Rattle.expansion_laws.specs.Examples.{after_one, visited_words, ExamplesComeOut}
 
 edge-by-wire : results_within by_wire 8 at_root (expansion wires (plus 1)) ≡ Some (after_wire ∷ [])
 unfolding results_within
@@ -24,7 +27,8 @@ face-at-place : results_within at_place 8 at_root (expansion solids (plus 1)) �
 unfolding results_within
 face-at-place = refl
 
-internal-removed : results_within (under_turn Internal) 8 at_root turned_root ≡ Some (a_single Internal [] (tree_of 1 []) ∷ [])
+internal-removed : results_within (under_turn Internal) 8 at_root turned_root ≡
+    Some (a_single Internal [] (tree_of 1 []) ∷ [])
 unfolding results_within
 internal-removed = refl
 
@@ -40,7 +44,8 @@ no-results-in-cycle : results_within in_cycle 8 at_root (expansion pairs (plus 1
 unfolding results_within
 no-results-in-cycle = refl
 
-leaf-of-doubled : results_within by_leaf 8 at_root (expansion doubled (plus 1)) ≡ Some (bare (twice 1 (twice 2 (twice 3 (tree_of_number doubled 4)))) ∷ [])
+leaf-of-doubled : results_within by_leaf 8 at_root (expansion doubled (plus 1)) ≡
+    Some (bare (twice 1 (twice 2 (twice 3 (tree_of_number doubled 4)))) ∷ [])
 unfolding results_within
 leaf-of-doubled = refl
 

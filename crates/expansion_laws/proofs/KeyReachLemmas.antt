@@ -31,7 +31,8 @@ module _ (s : Step) (asks : Tree → Bool) where
   IsToldAt x = (b : Bool) × (IsTrue b ↔ Asked x)
 
   -- a tree asks it itself, or an end of one of its edges leads to it
-  pub asked-cases : {x y : Tree} → Reaches s x y → asks y ≡ true → (asks x ≡ true) ⊎ ((z : Tree) × Contains (edges s x) z × Asked z)
+  pub asked-cases : {x y : Tree} → Reaches s x y → asks y ≡ true →
+      (asks x ≡ true) ⊎ ((z : Tree) × Contains (edges s x) z × Asked z)
   asked-cases itself e = inl e
   asked-cases {y = y} (along z m r) e = inr (z, m, (y, r, e))
 
@@ -39,7 +40,8 @@ module _ (s : Step) (asks : Tree → Bool) where
   asked-back x (inl e) = (x, itself, e)
   asked-back x (inr h) = (h.2.0, along h.0 h.1 h.2.1, h.2.2)
 
-  told-any : (xs : List Tree) → ((y : Tree) → Contains xs y → IsToldAt y) → (b : Bool) × (IsTrue b ↔ ((y : Tree) × Contains xs y × Asked y))
+  told-any : (xs : List Tree) → ((y : Tree) → Contains xs y → IsToldAt y) →
+      (b : Bool) × (IsTrue b ↔ ((y : Tree) × Contains xs y × Asked y))
   told-any [] each = (false, ((λ e. absurd cc), (λ h. absurd (Contains-none h.0 h.1))))
   told-any (x ∷ xs) each =
       let one = each x (Contains-here x xs) in
@@ -62,12 +64,19 @@ module _ (s : Step) (asks : Tree → Bool) where
       let any = told-any (edges s x) each in (
         asks x || any.0,
         (
-          (λ e. elim (either-cases (asks x) any.0 e) [ inl f ↦ asked-back x (inl f) | inr f ↦ asked-back x (inr (any.1.0 f)) ]),
-          (λ h. elim (asked-cases h.1 h.2) [ inl f ↦ either-first (asks x) any.0 f | inr g ↦ either-second (asks x) any.0 (any.1.1 g) ]),
+          (λ e. elim (either-cases (asks x) any.0 e) [
+            | inl f ↦ asked-back x (inl f)
+            | inr f ↦ asked-back x (inr (any.1.0 f))
+          ]),
+          (λ h. elim (asked-cases h.1 h.2) [
+            | inl f ↦ either-first (asks x) any.0 f
+            | inr g ↦ either-second (asks x) any.0 (any.1.1 g)
+          ]),
         ),
       )
 
-  below-bound : (n : ℕ) (x y : Tree) → IsRankBound (edges s) x (suc n) → Contains (edges s x) y → IsRankBound (edges s) y n
+  below-bound : (n : ℕ) (x y : Tree) → IsRankBound (edges s) x (suc n) → Contains (edges s x) y →
+      IsRankBound (edges s) y n
   below-bound n x y h m walk w = let a = h (y ∷ walk) (m, w) in omega (arith, a)
 
   -- where no walk is longer it is told
@@ -82,9 +91,11 @@ same-test false true h g = absurd (let e = g refl in cc)
 same-test false false h g = refl
 
 -- what a tree reaches has no longer walks
-reached-bound : (s : Step) {x y : Tree} → Reaches s x y → (n : ℕ) → IsRankBound (edges s) x n → IsRankBound (edges s) y n
+reached-bound : (s : Step) {x y : Tree} → Reaches s x y → (n : ℕ) → IsRankBound (edges s) x n →
+    IsRankBound (edges s) y n
 reached-bound s itself n h = h
-reached-bound s {x = x} (along z m r) n h = reached-bound s r n (λ walk w. let a = h (z ∷ walk) (m, w) in omega (arith, a))
+reached-bound s {x = x} (along z m r) n h =
+    reached-bound s r n (λ walk w. let a = h (z ∷ walk) (m, w) in omega (arith, a))
 
 module _ (s : Step) where
   key-within : (n : ℕ) (x : Tree) (here : Context) → IsRankBound (edges s) x n → (k : Key) × IsKey s x here k

@@ -19,7 +19,8 @@ kept-joined None b a' b' h k = tt
 kept-joined (Some a) None a' b' h k = tt
 kept-joined (Some a) (Some b) a' b' h k = λ i. joined (h i) (k i)
 
-pub kept-all : (f g : Use → Option (List Use)) → ((u : Use) → IsKept (f u) (g u)) → (us : List Use) → IsKept (all_results f us) (all_results g us)
+pub kept-all : (f g : Use → Option (List Use)) → ((u : Use) → IsKept (f u) (g u)) → (us : List Use) →
+    IsKept (all_results f us) (all_results g us)
 kept-all f g h [] = refl
 kept-all f g h (u ∷ us) = kept-joined (f u) (all_results f us) (g u) (all_results g us) (h u) (kept-all f g h us)
 
@@ -27,19 +28,26 @@ kept-map : (f : List Use → List Use) (a b : Option (List Use)) → IsKept a b 
 kept-map f None b h = tt
 kept-map f (Some a) b h = ap (option_map f) h
 
-module _ (s : Step) (f g : Context → Use → Option (List Use)) (h : (c : Context) (u : Use) → IsKept (f c u) (g c u)) where
-  kept-act : (c : Context) (u : Use) (place : Option (List Pair)) (act : Act) → IsKept (by_act s f c u place act) (by_act s g c u place act)
-  kept-act c u place remove = refl
-  kept-act c u place (replace by) = kept-all (f c) (g c) (h c) (onward s u.tree (new_use c u place by))
+module _ (s : Step) (f g : Context → Use → Option (List Use)) (h : (c : Context) (u : Use) → IsKept (f c u) (g c u))
+  where
+    kept-act : (c : Context) (u : Use) (place : Option (List Pair)) (act : Act) →
+        IsKept (by_act s f c u place act) (by_act s g c u place act)
+    kept-act c u place remove = refl
+    kept-act c u place (replace by) = kept-all (f c) (g c) (h c) (onward s u.tree (new_use c u place by))
 
-  kept-match : (c : Context) (u : Use) (m : Option Request) → IsKept (by_match s f c u m) (by_match s g c u m)
-  kept-match c u None = kept-map (remains s u) (all_results (f (inside c u)) (entered s u.tree)) (all_results (g (inside c u)) (entered s u.tree)) (kept-all (f (inside c u)) (g (inside c u)) (h (inside c u)) (entered s u.tree))
-  kept-match c u (Some r) = kept-act c u r.place r.act
+    kept-match : (c : Context) (u : Use) (m : Option Request) → IsKept (by_match s f c u m) (by_match s g c u m)
+    kept-match c u None =
+        kept-map (remains s u) (all_results (f (inside c u)) (entered s u.tree))
+        (all_results (g (inside c u)) (entered s u.tree))
+        (kept-all (f (inside c u)) (g (inside c u)) (h (inside c u)) (entered s u.tree))
+    kept-match c u (Some r) = kept-act c u r.place r.act
 
 one_more : (s : Step) (n : ℕ) (c : Context) (u : Use) → IsKept (results_within s n c u) (results_within s (suc n) c u)
 unfolding results_within
 one_more s zero c u = tt
-one_more s (suc n) c u = kept-match s (λ d v. results_within s n d v) (λ d v. results_within s (suc n) d v) (one_more s n) c u (match_of s.requests u.tree (inside c u))
+one_more s (suc n) c u =
+    kept-match s (λ d v. results_within s n d v) (λ d v. results_within s (suc n) d v) (one_more s n) c u
+    (match_of s.requests u.tree (inside c u))
 
 kept-trans : (a b d : Option (List Use)) → IsKept a b → IsKept b d → IsKept a d
 kept-trans None b d h k = tt
@@ -54,7 +62,8 @@ pub more : (s : Step) (k n : ℕ) (c : Context) (u : Use) → IsKept (results_wi
 more s zero n c u = rw zero-add (kept-refl (results_within s n c u))
 more s (suc k) n c u =
     let e : suc k + n ≡ suc (k + n) = omega arith in
-    rw e (kept-trans (results_within s n c u) (results_within s (k + n) c u) (results_within s (suc (k + n)) c u) (more s k n c u) (one_more s (k + n) c u))
+    rw e (kept-trans (results_within s n c u) (results_within s (k + n) c u) (results_within s (suc (k + n)) c u)
+    (more s k n c u) (one_more s (k + n) c u))
 
 pub kept-at : (x y : Option (List Use)) (a : List Use) → IsKept x y → x ≡ Some a → y ≡ Some a
 kept-at None y a h e = absurd (cc)

@@ -31,6 +31,7 @@ pub mod StepExampleLemmas
 pub mod UsualLemmas
 pub mod RuleExampleLemmas
 pub mod EndLemmas
+pub mod MeasureKeys
 pub mod MeasureLemmas
 pub mod MeasureExampleLemmas
 pub mod KeyReachLemmas

@@ -24,7 +24,8 @@ number_in-has (y ∷ ys) x m = by_test (tree_eq x y)
     ((omega arith, omega arith), ap (slice_get (y ∷ ys)) none ∙ ap Some (sym (tree_eq-same x y e)))))
     (λ e. subst (λ b. HasNumber (y ∷ ys) x (if b then suc (length ys) else number_in ys x)) (sym e)
     (let later : Contains ys x = elim (Contains-cases y x ys m) [
-      | inl same ↦ (let f : tree_eq x y ≡ true = subst (λ z. tree_eq x z ≡ true) (sym same) (tree_eq-itself x) in absurd cc)
+      | inl same ↦ (let f : tree_eq x y ≡ true = subst (λ z. tree_eq x z ≡ true) (sym same) (tree_eq-itself x) in
+          absurd cc)
       | inr k ↦ k
     ] in
     let r = number_in-has ys x later in
@@ -32,12 +33,14 @@ number_in-has (y ∷ ys) x m = by_test (tree_eq x y)
     let back : suc (length ys) - number_in ys x ≡ suc (length ys - number_in ys x) = omega (arith, low, high) in
     ((low, omega (arith, high)), ap (slice_get (y ∷ ys)) back ∙ r.1)))
 
-pub number_in-at : (trees : List Tree) → IsDistinct trees → (k : ℕ) (x : Tree) → IsNumberOf (length trees) k → slice_get trees (length trees - k) ≡ Some x → number_in trees x ≡ k
+pub number_in-at : (trees : List Tree) → IsDistinct trees → (k : ℕ) (x : Tree) → IsNumberOf (length trees) k →
+    slice_get trees (length trees - k) ≡ Some x → number_in trees x ≡ k
 number_in-at [] d k x n e = absurd (let low = n.0 in let high = n.1 in omega (arith, low, high))
 number_in-at (y ∷ ys) d k x n e = go (suc (length ys) - k) refl e (number_in-at ys d.1)
   where
     go : (i : ℕ) → i ≡ suc (length ys) - k → slice_get (y ∷ ys) i ≡ Some x →
-        ((k : ℕ) (x : Tree) → IsNumberOf (length ys) k → slice_get ys (length ys - k) ≡ Some x → number_in ys x ≡ k) → number_in (y ∷ ys) x ≡ k
+        ((k : ℕ) (x : Tree) → IsNumberOf (length ys) k → slice_get ys (length ys - k) ≡ Some x → number_in ys x ≡ k) →
+        number_in (y ∷ ys) x ≡ k
     go zero i_is e again =
         let high = n.1 in
         let test : tree_eq x y ≡ true = subst (λ z. tree_eq x z ≡ true) (sym (same_Some y x e)) (tree_eq-itself x) in

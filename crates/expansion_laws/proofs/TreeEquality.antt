@@ -33,7 +33,8 @@ turn_eq-itself External = refl
 mutual
   pub tree_eq-same : (x y : Tree) → tree_eq x y ≡ true → x ≡ y
   tree_eq-same (node j us) (node k vs) e =
-      λ i. node (eqb-true j k (and-left (j == k) (uses_eq us vs) e) i) (uses_eq-same us vs (and-right (j == k) (uses_eq us vs) e) i)
+      λ i. node (eqb-true j k (and-left (j == k) (uses_eq us vs) e) i)
+      (uses_eq-same us vs (and-right (j == k) (uses_eq us vs) e) i)
 
   pub uses_eq-same : (us vs : Uses) → uses_eq us vs ≡ true → us ≡ vs
   uses_eq-same no_use no_use e = refl
@@ -53,14 +54,17 @@ mutual
 
   pub uses_eq-itself : (us : Uses) → uses_eq us us ≡ true
   uses_eq-itself no_use = refl
-  uses_eq-itself (a_use t w x us) = rw (turn_eq-itself t, (pairs_decide w w).1 refl, tree_eq-itself x) (uses_eq-itself us)
+  uses_eq-itself (a_use t w x us) =
+      rw (turn_eq-itself t, (pairs_decide w w).1 refl, tree_eq-itself x) (uses_eq-itself us)
 
 pub use_eq-same : (u v : Use) → use_eq u v ≡ true → u ≡ v
 use_eq-same u v e =
     let ab = and-left (turn_eq u.turn v.turn && pairs_eq u.word v.word) (tree_eq u.tree v.tree) e in
     let a = turn_eq-same u.turn v.turn (and-left (turn_eq u.turn v.turn) (pairs_eq u.word v.word) ab) in
     let b = (pairs_decide u.word v.word).0 (and-right (turn_eq u.turn v.turn) (pairs_eq u.word v.word) ab) in
-    let c = tree_eq-same u.tree v.tree (and-right (turn_eq u.turn v.turn && pairs_eq u.word v.word) (tree_eq u.tree v.tree) e) in
+    let c =
+    tree_eq-same u.tree v.tree (and-right (turn_eq u.turn v.turn && pairs_eq u.word v.word) (tree_eq u.tree v.tree)
+    e) in
     λ i. record { turn = a i; word = b i; tree = c i }
 
 pub use_eq-itself : (u : Use) → use_eq u u ≡ true

@@ -29,7 +29,9 @@ module _ (s : Step) (rule : s.rule ≡ usual) where
   stopped-lowest x e = lowest (kind s x) (ap (λ (r : Rule). is_above r.stop (kind s x)) (sym rule) ∙ e)
 
   not-pruned : (x : Tree) (below : List Use) → is_pruned s x below ≡ false
-  not-pruned x [] = ap (λ (r : Rule). is_pruned (record { kind_of_origin = s.kind_of_origin; requests = s.requests; rule = r }) x []) rule
+  not-pruned x [] =
+      ap (λ (r : Rule). is_pruned (record { kind_of_origin = s.kind_of_origin; requests = s.requests; rule = r }) x [])
+      rule
   not-pruned x (v ∷ vs) = refl
 
   all-entered : (x : Tree) → (kind s x ≡ Ve → uses x ≡ []) → entered s x ≡ uses x
@@ -37,7 +39,8 @@ module _ (s : Step) (rule : s.rule ≡ usual) where
       (λ e. ap (λ b. if b then uses x else []) e)
       (λ e. ap (λ b. if b then uses x else []) e ∙ sym (h (stopped-lowest x e)))
 
-  stays-over : (x : Tree) → (kind s x ≡ Ve → uses x ≡ []) → (u : Use) (below : List Use) → u.tree ≡ x → (uses x ≡ [] → below ≡ []) → remains s u below ≡ rebuilt u below ∷ []
+  stays-over : (x : Tree) → (kind s x ≡ Ve → uses x ≡ []) → (u : Use) (below : List Use) → u.tree ≡ x →
+      (uses x ≡ [] → below ≡ []) → remains s u below ≡ rebuilt u below ∷ []
   stays-over x h u below same none = by_test (is_entered s x)
       (λ e. remains-rebuilt s u below (ap (is_entered s) same ∙ e) (not-pruned u.tree below))
       (λ e. (

@@ -7,9 +7,9 @@ use Rattle.expansion_laws.specs.Steps.{Step, is_entered, onward, new_use}
 use Rattle.expansion_laws.specs.Rewriting.{rebuilt, is_pruned}
 
 mutual
-  -- A use in a context becomes these results. Without a match it stays as it is where its tree isn't entered; else it stays over
-  -- the results of its tree's uses in its own context, and where it is pruned it goes. A match that removes gives none. After a
-  -- match that replaces come the results, in the same context, of the uses that go on.
+  -- A use in a context becomes these results. Without a match it stays as it is where its tree isn't entered; else it
+  -- stays over the results of its tree's uses in its own context, and where it is pruned it goes. A match that removes
+  -- gives none. After a match that replaces come the results, in the same context, of the uses that go on.
   pub data Derives (s : Step) : Context → Use → List Use → Type 0 where
     stopped : {c : Context} {u : Use} →
         match_of s.requests u.tree (inside c u) ≡ None →

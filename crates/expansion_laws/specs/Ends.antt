@@ -22,7 +22,8 @@ abbrev pub have_equal_ends : Tree → Turn → Tree → Bool
 have_equal_ends first sign second = same_things use_eq (ends_under Forward first) (ends_under sign second)
 
 abbrev pub EqualEndsTell : Type 0
-EqualEndsTell = (first : Tree) (sign : Turn) (second : Tree) → (have_equal_ends first sign second ≡ true) ↔ HaveEqualEnds first sign second
+EqualEndsTell = (first : Tree) (sign : Turn) (second : Tree) →
+    (have_equal_ends first sign second ≡ true) ↔ HaveEqualEnds first sign second
 
 -- ---- examples: edges over the vertices 2 and 3
 abbrev pub over : List Use → Tree
@@ -43,6 +44,7 @@ pub record EndsComeOut : Type 0 where
   pub the_other_way : have_equal_ends (over (ahead 2 ∷ back 3 ∷ [])) Forward (over (ahead 3 ∷ back 2 ∷ [])) ≡ false
   pub turned : have_equal_ends (over (ahead 2 ∷ back 3 ∷ [])) Reversed (over (ahead 3 ∷ back 2 ∷ [])) ≡ true
   pub sign_of_the_second : have_equal_ends (over (ahead 2 ∷ ahead 3 ∷ [])) Reversed (over (back 2 ∷ back 3 ∷ [])) ≡ true
-  pub with_repeats : have_equal_ends (over (ahead 2 ∷ ahead 2 ∷ back 3 ∷ [])) Forward (over (ahead 2 ∷ back 3 ∷ back 3 ∷ [])) ≡ false
+  pub with_repeats :
+      have_equal_ends (over (ahead 2 ∷ ahead 2 ∷ back 3 ∷ [])) Forward (over (ahead 2 ∷ back 3 ∷ back 3 ∷ [])) ≡ false
   pub of_one_number : have_equal_ends (over (ahead 2 ∷ [])) Forward (over (ahead 2 ∷ ahead 2 ∷ [])) ≡ false
   pub at_one_place : have_equal_ends (over (placed 2 ∷ [])) Forward (over (ahead 2 ∷ [])) ≡ false

@@ -48,7 +48,9 @@ always x act = record { source = x; place = None; turn = None; act = act }
 
 -- ---- an edge is replaced by a wire: the wire's edges stand in its place
 abbrev pub wires : List (List NumberedUse)
-wires = [] ∷ [] ∷ [] ∷ (plus 9 ∷ minus 8 ∷ []) ∷ (plus 9 ∷ minus 7 ∷ []) ∷ (plus 7 ∷ minus 8 ∷ []) ∷ (plus 6 ∷ []) ∷ (plus 5 ∷ plus 4 ∷ []) ∷ (plus 3 ∷ []) ∷ []
+wires =
+    [] ∷ [] ∷ [] ∷ (plus 9 ∷ minus 8 ∷ []) ∷ (plus 9 ∷ minus 7 ∷ []) ∷ (plus 7 ∷ minus 8 ∷ []) ∷ (plus 6 ∷ []) ∷
+    (plus 5 ∷ plus 4 ∷ []) ∷ (plus 3 ∷ []) ∷ []
 
 abbrev pub by_wire : Step
 by_wire =
@@ -56,11 +58,14 @@ by_wire =
     (always (tree_of_number wires 6) (replace (bare (tree_of_number wires 2))) ∷ [])
 
 abbrev pub after_wire : Use
-after_wire = bare (tree_of 1 (bare (tree_of 3 (bare (tree_of_number wires 5) ∷ bare (tree_of_number wires 4) ∷ [])) ∷ []))
+after_wire =
+    bare (tree_of 1 (bare (tree_of 3 (bare (tree_of_number wires 5) ∷ bare (tree_of_number wires 4) ∷ [])) ∷ []))
 
 -- ---- a vertex is replaced by another: the edge that two faces share stays one tree
 abbrev pub faces : List (List NumberedUse)
-faces = [] ∷ [] ∷ [] ∷ (plus 9 ∷ minus 8 ∷ []) ∷ (plus 6 ∷ []) ∷ (minus 6 ∷ []) ∷ (plus 5 ∷ []) ∷ (plus 4 ∷ []) ∷ (plus 3 ∷ plus 2 ∷ []) ∷ []
+faces =
+    [] ∷ [] ∷ [] ∷ (plus 9 ∷ minus 8 ∷ []) ∷ (plus 6 ∷ []) ∷ (minus 6 ∷ []) ∷ (plus 5 ∷ []) ∷ (plus 4 ∷ []) ∷
+    (plus 3 ∷ plus 2 ∷ []) ∷ []
 
 abbrev pub by_vertex : Step
 by_vertex =
@@ -78,17 +83,25 @@ after_vertex =
 
 -- ---- a face is replaced at one of two places; the new face's accumulated word is the one that the request gives
 abbrev pub solids : List (List NumberedUse)
-solids = [] ∷ [] ∷ [] ∷ (plus 6 ∷ plus 5 ∷ []) ∷ (plus 3 ∷ []) ∷ (named Forward (by_datum 1) 2 ∷ named Forward (by_datum 2) 2 ∷ []) ∷ []
+solids =
+    [] ∷ [] ∷ [] ∷ (plus 6 ∷ plus 5 ∷ []) ∷ (plus 3 ∷ []) ∷
+    (named Forward (by_datum 1) 2 ∷ named Forward (by_datum 2) 2 ∷ []) ∷ []
 
 abbrev pub at_place : Step
 at_place =
     step_of (Co ∷ So ∷ Sh ∷ Fa ∷ Fa ∷ Fa ∷ [])
-    (record { source = tree_of_number solids 6; place = Some (by_datum 1); turn = None; act = replace (a_single Forward (by_datum 1) (tree_of_number solids 4)) } ∷ [])
+    (record {
+      source = tree_of_number solids 6;
+      place = Some (by_datum 1);
+      turn = None;
+      act = replace (a_single Forward (by_datum 1) (tree_of_number solids 4));
+    } ∷ [])
 
 abbrev pub after_place : Use
 after_place =
     bare (tree_of 1 (
-    a_single Forward (by_datum 1) (tree_of 2 (bare (tree_of 3 (bare (tree_of_number solids 4) ∷ bare (tree_of_number solids 5) ∷ [])) ∷ [])) ∷
+    a_single Forward (by_datum 1)
+    (tree_of 2 (bare (tree_of 3 (bare (tree_of_number solids 4) ∷ bare (tree_of_number solids 5) ∷ [])) ∷ [])) ∷
     a_single Forward (by_datum 2) (tree_of_number solids 2) ∷ []))
 
 -- ---- a vertex is removed under one turn: the accumulated turn counts, and not that of the use
@@ -96,7 +109,8 @@ abbrev pub turned : List (List NumberedUse)
 turned = [] ∷ (minus 2 ∷ []) ∷ []
 
 abbrev pub under_turn : Turn → Step
-under_turn t = step_of (Co ∷ Ve ∷ []) (record { source = tree_of_number turned 2; place = None; turn = Some t; act = remove } ∷ [])
+under_turn t =
+    step_of (Co ∷ Ve ∷ []) (record { source = tree_of_number turned 2; place = None; turn = Some t; act = remove } ∷ [])
 
 abbrev pub turned_root : Use
 turned_root = expansion turned (named Internal [] 1)
@@ -119,7 +133,9 @@ abbrev pub doubled : List (List NumberedUse)
 doubled = [] ∷ [] ∷ (plus 5 ∷ plus 5 ∷ []) ∷ (plus 3 ∷ plus 3 ∷ []) ∷ (plus 2 ∷ plus 2 ∷ []) ∷ []
 
 abbrev pub by_leaf : Step
-by_leaf = step_of (Co ∷ Co ∷ Co ∷ Ve ∷ Ve ∷ []) (always (tree_of_number doubled 5) (replace (bare (tree_of_number doubled 4))) ∷ [])
+by_leaf =
+    step_of (Co ∷ Co ∷ Co ∷ Ve ∷ Ve ∷ [])
+    (always (tree_of_number doubled 5) (replace (bare (tree_of_number doubled 4))) ∷ [])
 
 abbrev pub twice : ℕ → Tree → Tree
 twice k x = tree_of k (bare x ∷ bare x ∷ [])
@@ -133,16 +149,23 @@ placed =
 abbrev pub at_one : Step
 at_one =
     step_of (Co ∷ Co ∷ Ve ∷ Ve ∷ [])
-    (record { source = tree_of_number placed 4; place = Some (pair 2 (pos 1) ∷ pair 1 (pos 1) ∷ []); turn = None; act = replace (bare (tree_of_number placed 3)) } ∷ [])
+    (record {
+      source = tree_of_number placed 4;
+      place = Some (pair 2 (pos 1) ∷ pair 1 (pos 1) ∷ []);
+      turn = None;
+      act = replace (bare (tree_of_number placed 3));
+    } ∷ [])
 
 abbrev pub after_one : Use
 after_one =
     bare (tree_of 1 (
     a_single Forward (by_datum 1) (tree_of 2 (
-    a_single Forward (by_datum 1) (tree_of_number placed 4) ∷ a_single Forward (pair 1 (negsuc 0) ∷ []) (tree_of_number placed 3) ∷ [])) ∷
+    a_single Forward (by_datum 1) (tree_of_number placed 4) ∷
+    a_single Forward (pair 1 (negsuc 0) ∷ []) (tree_of_number placed 3) ∷ [])) ∷
     a_single Forward (by_datum 2) (tree_of_number placed 2) ∷ []))
 
--- the accumulated words of the visits: of the root, then of each half with its two vertices, the new one after the one replaced
+-- the accumulated words of the visits: of the root, then of each half with its two vertices, the new one after the one
+-- replaced
 abbrev pub visited_words : List (List Pair)
 visited_words =
     [] ∷
@@ -154,11 +177,13 @@ pub record ExamplesComeOut : Type 0 where
   pub edge_by_wire : results_within by_wire 8 at_root (expansion wires (plus 1)) ≡ Some (after_wire ∷ [])
   pub shared_edge : results_within by_vertex 8 at_root (expansion faces (plus 1)) ≡ Some (after_vertex ∷ [])
   pub face_at_place : results_within at_place 8 at_root (expansion solids (plus 1)) ≡ Some (after_place ∷ [])
-  pub internal_removed : results_within (under_turn Internal) 8 at_root turned_root ≡ Some (a_single Internal [] (tree_of 1 []) ∷ [])
+  pub internal_removed : results_within (under_turn Internal) 8 at_root turned_root ≡
+      Some (a_single Internal [] (tree_of 1 []) ∷ [])
   pub reversed_stays : results_within (under_turn Reversed) 8 at_root turned_root ≡ Some (turned_root ∷ [])
   pub too_few_levels : results_within (under_turn Reversed) 1 at_root turned_root ≡ None
   pub first_cycle : IsFirstCycle in_cycle (tree_of_number pairs 1) cycle_walk
   pub no_results_in_cycle : results_within in_cycle 8 at_root (expansion pairs (plus 1)) ≡ None
-  pub leaf_of_doubled : results_within by_leaf 8 at_root (expansion doubled (plus 1)) ≡ Some (bare (twice 1 (twice 2 (twice 3 (tree_of_number doubled 4)))) ∷ [])
+  pub leaf_of_doubled : results_within by_leaf 8 at_root (expansion doubled (plus 1)) ≡
+      Some (bare (twice 1 (twice 2 (twice 3 (tree_of_number doubled 4)))) ∷ [])
   pub one_of_four : results_within at_one 8 at_root (expansion placed (plus 1)) ≡ Some (after_one ∷ [])
   pub visits_of_four : map (λ v. v.1.word) (visits_within at_one 3 (tree_of_number placed 1) at_root) ≡ visited_words

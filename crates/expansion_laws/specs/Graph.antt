@@ -3,7 +3,8 @@ use Rattle.std.specs.Prelude.{◌≡◌, ◌≢◌, ◌⊎◌, ℕ, ◌<◌, Boo
 use Rattle.std.specs.List.{flat_map, list_any}
 use Rattle.orientation.specs.declared.kind.Kind.{Kind}
 use Rattle.orientation.specs.Kinds.{kind_eq, rank_of}
-use Rattle.graph_walks.specs.Walks.{Reaches as WalksReach, HasCycle as WalksHaveCycle, IsRank as IsRankOfWalks, IsFirstCycle as IsFirstCycleOfWalks, StandsFor, Carries}
+use Rattle.graph_walks.specs.Walks.{Reaches as WalksReach, HasCycle as WalksHaveCycle, IsRank as IsRankOfWalks}
+use Rattle.graph_walks.specs.Walks.{IsFirstCycle as IsFirstCycleOfWalks, StandsFor, Carries}
 use Rattle.expansion_laws.specs.Trees.{Tree, Use, uses}
 use Rattle.expansion_laws.specs.Requests.{Act, remove, replace, requests_for, live_requests, is_unconditional}
 use Rattle.expansion_laws.specs.Steps.{Step, kind, entered}
@@ -20,8 +21,8 @@ abbrev pub targets : Step → Tree → Act → List Tree
 targets s x remove = []
 targets s x (replace by) = if kind_eq (kind s x) (kind s by.tree) then by.tree ∷ [] else children by.tree
 
--- the edges from a tree: those of its live requests in the order given, and then, unless it has an unconditional request or isn't
--- entered, those to its own uses' trees
+-- the edges from a tree: those of its live requests in the order given, and then, unless it has an unconditional
+-- request or isn't entered, those to its own uses' trees
 abbrev pub edges : Step → Tree → List Tree
 edges s x =
     flat_map (λ r. targets s x r.act) (live_requests s.requests x) ++

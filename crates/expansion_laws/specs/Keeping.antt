@@ -29,26 +29,31 @@ abbrev pub ResultsHaveTheKind : Step → Type 0
 ResultsHaveTheKind s = AllFit s → (c : Context) (u : Use) (results : List Use) → Rewrites s c u results →
     (v : Use) → Contains results v → kind s v.tree ≡ kind s u.tree
 
--- What is kept: a fact of trees, one of words, and how the tree of a use stands to those of its results. Each case of the rule
--- keeps them.
+-- What is kept: a fact of trees, one of words, and how the tree of a use stands to those of its results. Each case of
+-- the rule keeps them.
 pub record IsKept (s : Step) (P : Tree → Type 0) (W : List Pair → Type 0) (R : Tree → Tree → Type 0) : Type 0 where
   pub uses_of_it : (x : Tree) (u : Use) → P x → Contains (uses x) u → P u.tree × W u.word
   pub targets : (r : Request) (by : Use) → Replaces s r by → P by.tree × W by.word
   pub rebuilt : (x : Tree) (below : List Use) → P x →
-      ((v : Use) → Contains below v → P v.tree × W v.word × ((u : Use) × Contains (uses x) u × R u.tree v.tree)) → P (tree_of (origin x) below)
+      ((v : Use) → Contains below v → P v.tree × W v.word × ((u : Use) × Contains (uses x) u × R u.tree v.tree)) →
+      P (tree_of (origin x) below)
   pub wrapped : (results : List Use) → ((v : Use) → Contains results v → P v.tree × W v.word) → P (tree_of 0 results)
   pub nothing : W []
   pub products : (a b : List Pair) → W a → W b → W (mul a b)
   pub inverses : (a : List Pair) → W a → W (inverse a)
   pub stays : (x : Tree) (below : List Use) → R x (tree_of (origin x) below)
-  pub equal_kinds : (r : Request) (by : Use) (y : Tree) → Replaces s r by → kind_eq (kind s r.source) (kind s by.tree) ≡ true →
+  pub equal_kinds : (r : Request) (by : Use) (y : Tree) → Replaces s r by →
+      kind_eq (kind s r.source) (kind s by.tree) ≡ true →
       R by.tree y → R r.source y
-  pub other_kinds : (r : Request) (by u : Use) (y : Tree) → Replaces s r by → kind_eq (kind s r.source) (kind s by.tree) ≡ false →
+  pub other_kinds : (r : Request) (by u : Use) (y : Tree) → Replaces s r by →
+      kind_eq (kind s r.source) (kind s by.tree) ≡ false →
       Contains (uses by.tree) u → R u.tree y → R r.source y
 
 -- what each case keeps holds of all results, and of the new root
-pub record RewritingKeeps (s : Step) (P : Tree → Type 0) (W : List Pair → Type 0) (R : Tree → Tree → Type 0) : Type 0 where
-  pub of_results : (c : Context) (u : Use) (results : List Use) → W c.word → W u.word → P u.tree → Rewrites s c u results →
+pub record RewritingKeeps (s : Step) (P : Tree → Type 0) (W : List Pair → Type 0) (R : Tree → Tree → Type 0)
+    : Type 0 where
+  pub of_results : (c : Context) (u : Use) (results : List Use) → W c.word → W u.word → P u.tree →
+      Rewrites s c u results →
       (v : Use) → Contains results v → P v.tree × W v.word × R u.tree v.tree
   pub of_roots : (root new : Use) → W root.word → P root.tree → StepsTo s root new → P new.tree × W new.word
 
@@ -93,4 +98,5 @@ HasWordsOf D = AllNodes (λ y. (u : Use) → Contains (uses y) u → IsWordOf D 
 -- where what is given has words over some datums, so has the new root
 abbrev pub WordsStay : Step → (ℕ → Type 0) → Type 0
 WordsStay s D = (root new : Use) → HoldsOfGiven s (HasWordsOf D) root.tree → IsWordOf D root.word →
-    ((r : Request) (by : Use) → Replaces s r by → IsWordOf D by.word) → StepsTo s root new → HasWordsOf D new.tree × IsWordOf D new.word
+    ((r : Request) (by : Use) → Replaces s r by → IsWordOf D by.word) → StepsTo s root new →
+    HasWordsOf D new.tree × IsWordOf D new.word

@@ -1,5 +1,5 @@
--- What is promised of keys and of reach: a tree with a rank has one key at each context, and whether a place or a turn is reached
--- goes by the ends of edges.
+-- What is promised of keys and of reach: a tree with a rank has one key at each context, and whether a place or a turn
+-- is reached goes by the ends of edges.
 use Rattle.std.specs.Prelude.{◌≡◌, ◌⊎◌, ◌↔◌, ℕ, true, Contains}
 use Rattle.expansion_laws.specs.Trees.{Tree, Use}
 use Rattle.expansion_laws.specs.Contexts.{Context}
@@ -20,5 +20,7 @@ VisitsHaveKeys s = (n : ℕ) (root : Use) (x : Tree) (here : Context) → IsRank
 
 -- a place or a turn is reached where the tree asks it, or an end of one of its edges reaches it
 pub record ReachGoesByEnds (s : Step) : Type 0 where
-  pub place : (x : Tree) → ReachesPlace s x ↔ ((asks_place s x ≡ true) ⊎ ((y : Tree) × Contains (edges s x) y × ReachesPlace s y))
-  pub turn : (x : Tree) → ReachesTurn s x ↔ ((asks_turn s x ≡ true) ⊎ ((y : Tree) × Contains (edges s x) y × ReachesTurn s y))
+  pub place : (x : Tree) →
+      ReachesPlace s x ↔ ((asks_place s x ≡ true) ⊎ ((y : Tree) × Contains (edges s x) y × ReachesPlace s y))
+  pub turn : (x : Tree) →
+      ReachesTurn s x ↔ ((asks_turn s x ≡ true) ⊎ ((y : Tree) × Contains (edges s x) y × ReachesTurn s y))

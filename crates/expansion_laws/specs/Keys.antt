@@ -1,5 +1,6 @@
 -- The key of a visit: what its relative results depend on.
-use Rattle.std.specs.Prelude.{◌≡◌, ◌↔◌, Bool, true, if◌then◌else◌, Option, None, Some, is_some, unwrap_or, List, [], IsTrue}
+use Rattle.std.specs.Prelude.{◌≡◌, ◌↔◌, Bool, true, if◌then◌else◌, Option}
+use Rattle.std.specs.Prelude.{None, Some, is_some, unwrap_or, List, [], IsTrue}
 use Rattle.std.specs.List.{list_any}
 use Rattle.orientation.specs.declared.turn.Turn.{Turn}
 use Rattle.orientation.specs.declared.turn.Turn.TheVariants.{Forward}
@@ -44,7 +45,8 @@ key with_word with_turn x here = record {
 -- the key of a visit: it holds the word exactly where a place is reached, and the turn exactly where a turn is
 abbrev pub IsKey : Step → Tree → Context → Key → Type 0
 IsKey s x here k =
-    (with_word : Bool) × (with_turn : Bool) × (IsTrue with_word ↔ ReachesPlace s x) × (IsTrue with_turn ↔ ReachesTurn s x) ×
+    (with_word : Bool) × (with_turn : Bool) × (IsTrue with_word ↔ ReachesPlace s x) ×
+    (IsTrue with_turn ↔ ReachesTurn s x) ×
     (k ≡ key with_word with_turn x here)
 
 -- the keys of a step are those of its visits

@@ -35,3 +35,4 @@ pub mod Plain
 pub mod PlainFile
 pub mod SlowRewriting
 pub mod SlowParts
+pub mod SlowCalls

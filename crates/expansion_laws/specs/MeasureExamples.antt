@@ -8,12 +8,14 @@ use Rattle.expansion_laws.specs.Expansion.{expansion}
 use Rattle.expansion_laws.specs.Contexts.{at_root, inside}
 use Rattle.expansion_laws.specs.Steps.{Step}
 use Rattle.expansion_laws.specs.WholeVisits.{is_whole}
-use Rattle.expansion_laws.specs.Examples.{plus, by_datum, wires, by_wire, faces, after_vertex, solids, at_place, placed, at_one}
+use Rattle.expansion_laws.specs.Examples.{plus, by_datum, wires, by_wire, faces}
+use Rattle.expansion_laws.specs.Examples.{after_vertex, solids, at_place, placed, at_one}
 use Rattle.expansion_laws.specs.RuleExamples.{face, vertex_out_of_reach, solid, without_face}
-use Rattle.expansion_laws.specs.SlowMeasures.{is_ranked, keys_listed, word_keys_listed, uses_counted, words_listed, held_listed}
+use Rattle.expansion_laws.specs.SlowMeasures.{is_ranked, keys_listed, word_keys_listed}
+use Rattle.expansion_laws.specs.SlowMeasures.{uses_counted, words_listed, held_listed}
 
--- a step in which nothing is asked beyond so many demands and no walk is longer has so many keys, so many of them with a word,
--- and so many uses
+-- a step in which nothing is asked beyond so many demands and no walk is longer has so many keys, so many of them with
+-- a word, and so many uses
 pub record HasMeasures (s : Step) (n : ℕ) (root : Use) (keys word_keys uses_made : ℕ) : Type 0 where
   pub whole : is_whole s n root.tree (inside at_root root) ≡ true
   pub ranked : is_ranked s n root.tree ≡ true

@@ -1,5 +1,6 @@
 -- Rewriting by a bounded function: the results of a use, where a derivation of at most so many levels gives them.
-use Rattle.std.specs.Prelude.{◌≡◌, ◌&&◌, not, ℕ, zero, suc, Bool, false, if◌then◌else◌, Option, None, Some, List, [], ◌∷◌, ◌++◌}
+use Rattle.std.specs.Prelude.{◌≡◌, ◌&&◌, not, ℕ, zero, suc, Bool, false}
+use Rattle.std.specs.Prelude.{if◌then◌else◌, Option, None, Some, List, [], ◌∷◌, ◌++◌}
 use Rattle.std.specs.Option.{option_map}
 use Rattle.lists.specs.Sameness.{is_empty}
 use Rattle.location_words.specs.declared.pair.Pair.{Pair}
@@ -28,10 +29,11 @@ abbrev pub is_pruned : Step → Tree → List Use → Bool
 is_pruned s x [] = s.rule.prune && not (is_empty (uses x))
 is_pruned s x (v ∷ vs) = false
 
--- what remains of a use without a match: the use itself where its tree isn't entered; else the use over the results of its
--- tree's uses, or nothing where it is pruned
+-- what remains of a use without a match: the use itself where its tree isn't entered; else the use over the results of
+-- its tree's uses, or nothing where it is pruned
 abbrev pub remains : Step → Use → List Use → List Use
-remains s u below = if is_entered s u.tree then (if is_pruned s u.tree below then [] else rebuilt u below ∷ []) else u ∷ []
+remains s u below =
+    if is_entered s u.tree then (if is_pruned s u.tree below then [] else rebuilt u below ∷ []) else u ∷ []
 
 module _ (s : Step) (again : Context → Use → Option (List Use)) where
   -- the results after a match, by its act, where `again` gives those of further uses
@@ -53,8 +55,8 @@ results_within s (suc n) c u = by_match s (λ d v. results_within s n d v) c u (
 abbrev pub Rewrites : Step → Context → Use → List Use → Type 0
 Rewrites s c u results = (n : ℕ) × (results_within s n c u ≡ Some results)
 
--- the relative results of a visit: those of the forward use of its tree under no word, in a context that has the visit's
--- accumulated turn and word
+-- the relative results of a visit: those of the forward use of its tree under no word, in a context that has the
+-- visit's accumulated turn and word
 abbrev pub RelativeResults : Step → Tree → Context → List Use → Type 0
 RelativeResults s x here results = Rewrites s here (bare x) results
 

@@ -1,5 +1,5 @@
--- What is promised of rewriting: the bounded function is the least relation, results are carried by their use and depend on the
--- key of the visit alone, and where no walk in the graph is too long they are there.
+-- What is promised of rewriting: the bounded function is the least relation, results are carried by their use and
+-- depend on the key of the visit alone, and where no walk in the graph is too long they are there.
 use Rattle.std.specs.Prelude.{◌≡◌, ◌↔◌, ℕ, List, map, Contains}
 use Rattle.std.specs.List.{flat_map}
 use Rattle.location_words.specs.Pairs.{IsWord}
@@ -23,12 +23,14 @@ IsDetermined s = (c : Context) (u : Use) (a b : List Use) → Rewrites s c u a �
 
 -- where the rank of a use's tree is told, the use has results in any context
 abbrev pub RankedUsesHaveResults : Step → Type 0
-RankedUsesHaveResults s = (n : ℕ) (c : Context) (u : Use) → IsRank s u.tree n → (results : List Use) × Rewrites s c u results
+RankedUsesHaveResults s =
+    (n : ℕ) (c : Context) (u : Use) → IsRank s u.tree n → (results : List Use) × Rewrites s c u results
 
 -- the results of a use are the relative results of its visit, each carried by the use's turn and word, in order
 abbrev pub ResultsAreCarried : Step → Type 0
 ResultsAreCarried s = (c : Context) (u : Use) (results : List Use) → IsWord c.word → IsWord u.word →
-    Rewrites s c u results ↔ ((parts : List Use) × RelativeResults s u.tree (inside c u) parts × (results ≡ map (carried u.turn u.word) parts))
+    Rewrites s c u results ↔ ((parts : List Use) × RelativeResults s u.tree (inside c u) parts ×
+    (results ≡ map (carried u.turn u.word) parts))
 
 -- two visits with equal keys have equal relative results
 abbrev pub ResultsDependOnKeyAlone : Step → Type 0
@@ -42,7 +44,8 @@ DemandsAreEdges s = (x : Tree) (here : Context) (v : Use) → Contains (demands 
 
 -- the lists of visits hold what a visit leads to
 abbrev pub VisitsAreListed : Step → Type 0
-VisitsAreListed s = (x y : Tree) (here there : Context) → LeadsTo s x here y there ↔ ((n : ℕ) × Contains (visits_within s n x here) (y, there))
+VisitsAreListed s = (x y : Tree) (here there : Context) →
+    LeadsTo s x here y there ↔ ((n : ℕ) × Contains (visits_within s n x here) (y, there))
 
 -- a use, and the relative results of its visit from a context
 abbrev pub HasParts : Step → Context → Use × List Use → Type 0
@@ -55,14 +58,18 @@ carried_parts p = map (carried p.0.turn p.0.word) p.1
 -- the relative results of a visit are gathered from those of its demands, each carried by its demand
 abbrev pub ResultsAreGathered : Step → Type 0
 ResultsAreGathered s =
-    (x : Tree) (here : Context) (asked : List (Use × List Use)) → IsWord here.word → demands s x here ≡ map (λ p. p.0) asked →
-    ((p : Use × List Use) → Contains asked p → HasParts s here p) → RelativeResults s x here (gathered s x here (flat_map carried_parts asked))
+    (x : Tree) (here : Context) (asked : List (Use × List Use)) → IsWord here.word →
+    demands s x here ≡ map (λ p. p.0) asked →
+    ((p : Use × List Use) → Contains asked p → HasParts s here p) →
+    RelativeResults s x here (gathered s x here (flat_map carried_parts asked))
 
--- the context that stands for a key serves each visit of that key: the demands, what is gathered from them, the results and the
--- demands' keys are the same
+-- the context that stands for a key serves each visit of that key: the demands, what is gathered from them, the results
+-- and the demands' keys are the same
 pub record KeysStandForVisits (s : Step) : Type 0 where
-  pub same_demands : (x : Tree) (here : Context) (k : Key) → IsKey s x here k → demands s x here ≡ demands s x (context_of k)
-  pub same_gathered : (x : Tree) (here : Context) (k : Key) (parts : List Use) → IsKey s x here k → gathered s x here parts ≡ gathered s x (context_of k) parts
+  pub same_demands : (x : Tree) (here : Context) (k : Key) → IsKey s x here k →
+      demands s x here ≡ demands s x (context_of k)
+  pub same_gathered : (x : Tree) (here : Context) (k : Key) (parts : List Use) → IsKey s x here k →
+      gathered s x here parts ≡ gathered s x (context_of k) parts
   pub same_results : (x : Tree) (here : Context) (k : Key) (results : List Use) → IsKey s x here k →
       RelativeResults s x here results ↔ RelativeResults s x (context_of k) results
   pub same_keys : (x : Tree) (here : Context) (k l : Key) (v : Use) → IsKey s x here k → Contains (demands s x here) v →

@@ -42,9 +42,16 @@ abbrev pub face_twice : Step
 face_twice = on_faces (down_to Fa) (other_vertex ∷ always (face 2) (replace (bare (face 3))) ∷ [])
 
 abbrev pub turned_face : Step
-turned_face = on_faces (down_to Fa) (record { source = face 2; place = None; turn = Some Reversed; act = replace (bare (face 3)) } ∷ [])
+turned_face =
+    on_faces (down_to Fa) (record {
+      source = face 2;
+      place = None;
+      turn = Some Reversed;
+      act = replace (bare (face 3));
+    } ∷ [])
 
--- ---- an edge in a compound: its kind is lower than that of faces, and that of the compound isn't higher than that of compounds
+-- ---- an edge in a compound: its kind is lower than that of faces, and that of the compound isn't higher than that of
+-- compounds
 abbrev pub loose : Use
 loose = bare (tree_of 1 (bare (tree_of 2 (bare (leaf 3) ∷ [])) ∷ []))
 
@@ -73,8 +80,10 @@ abbrev pub beside_shell : Step
 beside_shell = step_under pruning (Co ∷ Sh ∷ Ve ∷ []) (always (leaf 3) remove ∷ [])
 
 pub record RuleExamplesComeOut : Type 0 where
-  pub faces_stay : results_within vertex_out_of_reach 8 at_root (expansion faces (plus 1)) ≡ Some (expansion faces (plus 1) ∷ [])
-  pub faces_are_visited_last : map (λ v. v.0) (visits_within vertex_out_of_reach 8 (face 1) at_root) ≡ face 1 ∷ face 3 ∷ face 2 ∷ []
+  pub faces_stay : results_within vertex_out_of_reach 8 at_root (expansion faces (plus 1)) ≡
+      Some (expansion faces (plus 1) ∷ [])
+  pub faces_are_visited_last : map (λ v. v.0) (visits_within vertex_out_of_reach 8 (face 1) at_root) ≡
+      face 1 ∷ face 3 ∷ face 2 ∷ []
   pub face_replaced : results_within face_twice 8 at_root (expansion faces (plus 1)) ≡
       Some (bare (tree_of 1 (bare (face 3) ∷ bare (face 3) ∷ [])) ∷ [])
   pub no_edge_into_faces : edges vertex_out_of_reach (face 3) ≡ []
@@ -86,5 +95,7 @@ pub record RuleExamplesComeOut : Type 0 where
   pub emptied_stays : results_within (without_vertex (down_to Ve)) 8 at_root twofold ≡ Some (bare (leaf 1) ∷ [])
   pub emptied_goes : results_within (without_vertex pruning) 8 at_root twofold ≡ Some []
   pub nothing_is_a_compound : root_of [] ≡ bare (leaf 0)
-  pub shell_and_solid_go : results_within without_face 8 at_root solid ≡ Some (bare (tree_of 1 (bare (leaf 5) ∷ [])) ∷ [])
-  pub empty_shell_stays : results_within beside_shell 8 at_root empty_shell ≡ Some (bare (tree_of 1 (bare (leaf 2) ∷ [])) ∷ [])
+  pub shell_and_solid_go : results_within without_face 8 at_root solid ≡
+      Some (bare (tree_of 1 (bare (leaf 5) ∷ [])) ∷ [])
+  pub empty_shell_stays : results_within beside_shell 8 at_root empty_shell ≡
+      Some (bare (tree_of 1 (bare (leaf 2) ∷ [])) ∷ [])

@@ -1,6 +1,7 @@
 -- Trees relabelled, and files in which equal trees are one record.
 use Rattle.std.specs.Prelude.{◌≡◌, ℕ, List, length, Contains}
-use Rattle.expansion_laws.specs.Trees.{LabelledTree, LabelledUses, LabelledUse, Tree, Use, a_single, node, no_use, a_use, origin}
+use Rattle.expansion_laws.specs.Trees.{LabelledTree, LabelledUses, LabelledUse, Tree}
+use Rattle.expansion_laws.specs.Trees.{Use, a_single, node, no_use, a_use, origin}
 use Rattle.expansion_laws.specs.Measures.{subtrees}
 use Rattle.expansion_laws.specs.Expansion.{NumberedUse, IsNumberOf, tree_of_number, expansion}
 
@@ -26,6 +27,7 @@ use_with_origins origin_of u = relabelled_use (λ y. origin_of (origin y)) u
 
 -- every record of the file stands at or below the root, and no two records have one tree once they are relabelled
 pub record IsShared (records : List (List NumberedUse)) (root : NumberedUse) (origin_of : ℕ → ℕ) : Type 0 where
-  pub stands : (k : ℕ) → IsNumberOf (length records) k → Contains (subtrees (expansion records root).tree) (tree_of_number records k)
+  pub stands : (k : ℕ) → IsNumberOf (length records) k →
+      Contains (subtrees (expansion records root).tree) (tree_of_number records k)
   pub apart : (j k : ℕ) → IsNumberOf (length records) j → IsNumberOf (length records) k →
       with_origins origin_of (tree_of_number records j) ≡ with_origins origin_of (tree_of_number records k) → j ≡ k

@@ -1,5 +1,7 @@
 -- The measures of a step by plain slow lists: all visits one by one, and their keys.
-use Rattle.std.specs.Prelude.{◌≡◌, ◌↔◌, ◌&&◌, ◌||◌, ℕ, zero, suc, Bool, true, false, Option, None, Some, is_some, is_none, unwrap_or, List, [], ◌∷◌, ◌++◌, map, filter, length, sum_by, Contains, if◌then◌else◌}
+use Rattle.std.specs.Prelude.{◌≡◌, ◌↔◌, ◌&&◌, ◌||◌, ℕ, zero, suc, Bool, true, false, Option}
+use Rattle.std.specs.Prelude.{None, Some, is_some, is_none, unwrap_or, List, [], ◌∷◌, ◌++◌}
+use Rattle.std.specs.Prelude.{map, filter, length, sum_by, Contains, if◌then◌else◌}
 use Rattle.std.specs.List.{list_any, flat_map, list_all}
 use Rattle.lists.specs.Sameness.{is_empty}
 use Rattle.lists.specs.Distinct.{Counts, ListsEachOnce, each_once}
@@ -78,7 +80,8 @@ module _ (s : Step) (n : ℕ) (root : Use) where
 
   abbrev pub words_listed : List (List Pair)
   words_listed =
-      flat_map (words_within s n) keys_listed ++ map (λ r. r.word) (unwrap_or (results_within s (suc n) at_root root) [])
+      flat_map (words_within s n) keys_listed ++
+      map (λ r. r.word) (unwrap_or (results_within s (suc n) at_root root) [])
 
 abbrev pub held_listed : List Tree → List Use → List Tree
 held_listed records roots = each_once tree_eq (records ++ flat_map (λ r. subtrees r.tree) roots)
@@ -96,10 +99,12 @@ MeasuresByLists s = (n : ℕ) (root : Use) →
     is_whole s n root.tree (inside at_root root) ≡ true → is_ranked s n root.tree ≡ true → MeasuresAreListed s n root
 
 abbrev pub HeldTreesByLists : Type 0
-HeldTreesByLists = (records : List Tree) (roots : List Use) → Counts (IsHeldTree records roots) (length (held_listed records roots))
+HeldTreesByLists =
+    (records : List Tree) (roots : List Use) → Counts (IsHeldTree records roots) (length (held_listed records roots))
 
 -- each measure is one number at most
 pub record MeasuresAreDetermined (s : Step) (root : Use) : Type 0 where
   pub word_keys : (m n : ℕ) → Counts (IsWordKeyOf s root) m → Counts (IsWordKeyOf s root) n → m ≡ n
   pub uses_made : (m n : ℕ) → IsUseCount s root m → IsUseCount s root n → m ≡ n
-  pub held : (records : List Tree) (roots : List Use) (m n : ℕ) → Counts (IsHeldTree records roots) m → Counts (IsHeldTree records roots) n → m ≡ n
+  pub held : (records : List Tree) (roots : List Use) (m n : ℕ) → Counts (IsHeldTree records roots) m →
+      Counts (IsHeldTree records roots) n → m ≡ n

@@ -15,7 +15,8 @@ use Rattle.expansion_laws.specs.Requests.{Act, match_of}
 use Rattle.expansion_laws.specs.Steps.{Step, entered}
 use Rattle.expansion_laws.specs.Rewriting.{all_results, remains, by_act, by_match, results_within}
 use Rattle.expansion_laws.specs.Plain.{shown_tree}
-use Rattle.expansion_laws.specs.SlowRewriting.{Test, of_word, tests_by_act, tests_by_match, tests_within, outcome, slow_step, IsDueOutcome}
+use Rattle.expansion_laws.specs.SlowRewriting.{Test, of_word, tests_by_act, tests_by_match}
+use Rattle.expansion_laws.specs.SlowRewriting.{tests_within, outcome, slow_step, IsDueOutcome}
 
 abbrev pub step_by : Rules → Step
 step_by rules = slow_step rules.requests.now rules.kinds.now rules.rule
@@ -59,7 +60,11 @@ module _ (s : Step) where
   part_of c u = record { found = λ n. results_within s n c u; tests = λ n. tests_within s n c u }
 
   abbrev pub part_of_all : Context → List Use → Part
-  part_of_all c us = record { found = λ n. all_results (λ v. results_within s n c v) us; tests = λ n. flat_map (λ v. tests_within s n c v) us }
+  part_of_all c us =
+      record {
+        found = λ n. all_results (λ v. results_within s n c v) us;
+        tests = λ n. flat_map (λ v. tests_within s n c v) us;
+      }
 
   abbrev pub part_of_match : Context → Use → Part
   part_of_match c u = record {

@@ -67,7 +67,8 @@ children_left =
 abbrev pub last_lives : Step
 last_lives =
     step_of (Ve ∷ Ve ∷ Ve ∷ [])
-    (always (leaf 1) (replace (bare (leaf 2))) ∷ always (leaf 1) (replace (bare (leaf 3))) ∷ to_itself (leaf 2) ∷ to_itself (leaf 3) ∷ [])
+    (always (leaf 1) (replace (bare (leaf 2))) ∷ always (leaf 1) (replace (bare (leaf 3))) ∷ to_itself (leaf 2) ∷
+    to_itself (leaf 3) ∷ [])
 
 -- ---- keys
 abbrev pub asking : Option (List Pair) → Option Turn → Step
@@ -80,11 +81,18 @@ there = record { turn = Reversed; word = by_datum 2 }
 abbrev pub unreached : Step
 unreached =
     step_of (Co ∷ Co ∷ Ve ∷ Ve ∷ [])
-    (record { source = tree_of_number placed 3; place = Some (by_datum 1); turn = None; act = replace (bare (tree_of_number placed 4)) } ∷ [])
+    (record {
+      source = tree_of_number placed 3;
+      place = Some (by_datum 1);
+      turn = None;
+      act = replace (bare (tree_of_number placed 4));
+    } ∷ [])
 
 pub record StepExamplesComeOut : Type 0 where
-  pub internal_over_external : results_within (under_turn Internal) 8 at_root (nested Internal External) ≡ Some (emptied Internal ∷ [])
-  pub external_over_internal : results_within (under_turn External) 8 at_root (nested External Internal) ≡ Some (emptied External ∷ [])
+  pub internal_over_external : results_within (under_turn Internal) 8 at_root (nested Internal External) ≡
+      Some (emptied Internal ∷ [])
+  pub external_over_internal : results_within (under_turn External) 8 at_root (nested External Internal) ≡
+      Some (emptied External ∷ [])
   pub external_brought : results_within (brought External) 8 at_root (under Internal 2) ≡ Some (under Internal 3 ∷ [])
   pub internal_brought : results_within (brought Internal) 8 at_root (under External 2) ≡ Some (under External 3 ∷ [])
   pub equal_fits : KindFits kinds edge edge
@@ -96,9 +104,12 @@ pub record StepExamplesComeOut : Type 0 where
   pub no_children_of_replaced : IsFirstCycle children_left above_holder (leaf 5 ∷ leaf 5 ∷ [])
   pub last_unconditional : IsFirstCycle last_lives (leaf 1) (leaf 3 ∷ leaf 3 ∷ [])
   pub key_of_neither : IsKey (step_of (Ve ∷ []) []) (leaf 1) there (record { tree = leaf 1; word = None; turn = None })
-  pub key_of_word : IsKey (asking (Some (by_datum 1)) None) (leaf 1) there (record { tree = leaf 1; word = Some (by_datum 2); turn = None })
-  pub key_of_turn : IsKey (asking None (Some Internal)) (leaf 1) there (record { tree = leaf 1; word = None; turn = Some Reversed })
+  pub key_of_word : IsKey (asking (Some (by_datum 1)) None) (leaf 1) there
+      (record { tree = leaf 1; word = Some (by_datum 2); turn = None })
+  pub key_of_turn : IsKey (asking None (Some Internal)) (leaf 1) there
+      (record { tree = leaf 1; word = None; turn = Some Reversed })
   pub key_of_both : IsKey (asking (Some (by_datum 1)) (Some Internal)) (leaf 1) there
       (record { tree = leaf 1; word = Some (by_datum 2); turn = Some Reversed })
   pub no_place_reached : ReachesPlace unreached (tree_of_number placed 1) → ⊥
-  pub key_without_word : IsKey unreached (tree_of_number placed 1) there (record { tree = tree_of_number placed 1; word = None; turn = None })
+  pub key_without_word : IsKey unreached (tree_of_number placed 1) there
+      (record { tree = tree_of_number placed 1; word = None; turn = None })

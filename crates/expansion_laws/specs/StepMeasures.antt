@@ -1,5 +1,6 @@
 -- The measures of a step, over its visits and their keys.
-use Rattle.std.specs.Prelude.{◌≡◌, ◌≢◌, ◌⊎◌, ◌&&◌, true, ℕ, ◌+◌, None, Some, List, map, length, sum, sum_by, Contains, if◌then◌else◌, is_none}
+use Rattle.std.specs.Prelude.{◌≡◌, ◌≢◌, ◌⊎◌, ◌&&◌, true, ℕ, ◌+◌, None, Some, List, map}
+use Rattle.std.specs.Prelude.{length, sum, sum_by, Contains, if◌then◌else◌, is_none}
 use Rattle.lists.specs.Distinct.{ListsEachOnce}
 use Rattle.location_words.specs.declared.pair.Pair.{Pair}
 use Rattle.expansion_laws.specs.Trees.{Tree, Use, uses}
@@ -22,15 +23,17 @@ IsWordOfKey s root w = (k : Key) × IsKeyOfStep s root k × (k.word ≡ Some w)
 abbrev pub uses_below : List Use → ℕ
 uses_below results = sum (map (λ r. length (uses r.tree)) results)
 
--- what a visit adds to the uses by its results: their number and, where no request meets its tree and this is entered, that of the
--- uses of the tree that remains
+-- what a visit adds to the uses by its results: their number and, where no request meets its tree and this is entered,
+-- that of the uses of the tree that remains
 abbrev pub size_of : Step → Tree → Context → List Use → ℕ
-size_of s x here results = length results + (if is_none (match_of s.requests x here) && is_entered s x then uses_below results else 0)
+size_of s x here results =
+    length results + (if is_none (match_of s.requests x here) && is_entered s x then uses_below results else 0)
 
 -- what a key adds is what its visits add
 abbrev pub IsSize : Step → Use → Key → ℕ → Type 0
 IsSize s root k n =
-    (x : Tree) × (here : Context) × (results : List Use) × IsVisit s root x here × IsKey s x here k × RelativeResults s x here results ×
+    (x : Tree) × (here : Context) × (results : List Use) × IsVisit s root x here × IsKey s x here k ×
+    RelativeResults s x here results ×
     (n ≡ size_of s x here results)
 
 -- the uses of a step: the sum of what its keys add
@@ -41,12 +44,15 @@ IsUseCount s root n =
 
 -- the words of the uses of what remains of an entered tree that no request meets
 abbrev pub IsRemainingWord : Step → Tree → Context → Use → List Pair → Type 0
-IsRemainingWord s x here r w = (match_of s.requests x here ≡ None) × (is_entered s x ≡ true) × Contains (map (λ v. v.word) (uses r.tree)) w
+IsRemainingWord s x here r w =
+    (match_of s.requests x here ≡ None) × (is_entered s x ≡ true) × Contains (map (λ v. v.word) (uses r.tree)) w
 
--- the words that are tested after the uses: those of relative results, of the uses of what remains and of the root's results
+-- the words that are tested after the uses: those of relative results, of the uses of what remains and of the root's
+-- results
 abbrev pub IsWordMade : Step → Use → List Pair → Type 0
 IsWordMade s root w =
-    ((x : Tree) × (here : Context) × (results : List Use) × (r : Use) × IsVisit s root x here × RelativeResults s x here results × Contains results r ×
+    ((x : Tree) × (here : Context) × (results : List Use) × (r : Use) × IsVisit s root x here ×
+    RelativeResults s x here results × Contains results r ×
     ((w ≡ r.word) ⊎ IsRemainingWord s x here r w)) ⊎
     ((results : List Use) × Rewrites s at_root root results × Contains (map (λ r. r.word) results) w)
 

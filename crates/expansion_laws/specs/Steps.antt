@@ -1,4 +1,5 @@
--- Steps: the requests that are carried out together, the rule by which they are, and what a replace puts in a use's place.
+-- Steps: the requests that are carried out together, the rule by which they are, and what a replace puts in a use's
+-- place.
 use Rattle.std.specs.Prelude.{ℕ, Bool, if◌then◌else◌, Option, None, Some, List, [], ◌∷◌, map}
 use Rattle.orientation.specs.declared.turn.Turn.TheVariants.{Forward}
 use Rattle.orientation.specs.declared.kind.Kind.{Kind}

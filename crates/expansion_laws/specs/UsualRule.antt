@@ -1,4 +1,5 @@
--- The usual rule: over trees whose vertices have no uses, all is gone through, and only what a request meets goes or changes.
+-- The usual rule: over trees whose vertices have no uses, all is gone through, and only what a request meets goes or
+-- changes.
 use Rattle.std.specs.Prelude.{◌≡◌, List, [], ◌∷◌}
 use Rattle.orientation.specs.declared.kind.Kind.TheVariants.{Ve}
 use Rattle.orientation.specs.Rules.{usual}
@@ -9,7 +10,8 @@ use Rattle.expansion_laws.specs.Rewriting.{rebuilt, remains}
 -- all uses of a tree are gone through, and what remains of a use of it is that use over their results
 pub record IsGoneThrough (s : Step) (x : Tree) : Type 0 where
   pub all_entered : entered s x ≡ uses x
-  pub stays_over : (u : Use) (below : List Use) → u.tree ≡ x → (uses x ≡ [] → below ≡ []) → remains s u below ≡ rebuilt u below ∷ []
+  pub stays_over : (u : Use) (below : List Use) → u.tree ≡ x → (uses x ≡ [] → below ≡ []) →
+      remains s u below ≡ rebuilt u below ∷ []
 
 -- under the usual rule this holds of each tree that has no uses where its kind is that of vertices
 abbrev pub UsualRuleGoesThroughAll : Step → Type 0

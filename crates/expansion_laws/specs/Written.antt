@@ -1,5 +1,6 @@
 -- The records that a tree is written as: one for each distinct subtree, in the order of first completion.
-use Rattle.std.specs.Prelude.{◌≡◌, ℕ, suc, ◌-◌, ◌≤◌, Some, if◌then◌else◌, List, [], ◌∷◌, ◌++◌, map, length, reverse, slice_get, unwrap_or, Contains}
+use Rattle.std.specs.Prelude.{◌≡◌, ℕ, suc, ◌-◌, ◌≤◌, Some, if◌then◌else◌, List, [], ◌∷◌}
+use Rattle.std.specs.Prelude.{◌++◌, map, length, reverse, slice_get, unwrap_or, Contains}
 use Rattle.std.specs.List.{list_any}
 use Rattle.expansion_laws.specs.Trees.{Tree, Use, Uses, node, no_use, a_use, uses, origin}
 use Rattle.expansion_laws.specs.Equality.{tree_eq}
@@ -11,7 +12,8 @@ use Rattle.expansion_laws.specs.Sharing.{use_with_origins, with_origins, IsShare
 -- a node are gone through in order before the node itself.
 abbrev mutual
   pub completed : Tree → List Tree → List Tree
-  completed (node k us) done = if list_any (tree_eq (node k us)) done then done else completed_uses us done ++ node k us ∷ []
+  completed (node k us) done =
+      if list_any (tree_eq (node k us)) done then done else completed_uses us done ++ node k us ∷ []
 
   pub completed_uses : Uses → List Tree → List Tree
   completed_uses no_use done = done
@@ -43,7 +45,8 @@ pub record ListsSubtrees (root : Tree) (trees : List Tree) : Type 0 where
   pub all : (x : Tree) → Contains (subtrees root) x → Contains trees x
   pub numbers : (x : Tree) → Contains trees x → IsNumberOf (length trees) (number_in trees x)
   pub places : (x : Tree) → Contains trees x → slice_get trees (length trees - number_in trees x) ≡ Some x
-  pub once : (k : ℕ) (x : Tree) → IsNumberOf (length trees) k → slice_get trees (length trees - k) ≡ Some x → number_in trees x ≡ k
+  pub once : (k : ℕ) (x : Tree) → IsNumberOf (length trees) k → slice_get trees (length trees - k) ≡ Some x →
+      number_in trees x ≡ k
   pub last : number_in trees root ≡ 1
 
 -- These trees' records are a file that expands to the root again, no deeper than the root, and is shared.
@@ -51,6 +54,7 @@ pub record IsWritten (root : Use) (trees : List Tree) : Type 0 where
   pub lists : ListsSubtrees root.tree trees
   pub file : IsFile (records_of trees) (numbered trees root)
   pub expands : use_with_origins (origins_of trees) (expansion (records_of trees) (numbered trees root)) ≡ root
-  pub stands_for : (x : Tree) → Contains trees x → with_origins (origins_of trees) (tree_of_number (records_of trees) (number_in trees x)) ≡ x
+  pub stands_for : (x : Tree) → Contains trees x →
+      with_origins (origins_of trees) (tree_of_number (records_of trees) (number_in trees x)) ≡ x
   pub depths : (k : ℕ) → IsNumberOf (length trees) k → depth (tree_of_number (records_of trees) k) ≤ depth root.tree
   pub shared : IsShared (records_of trees) (numbered trees root) (origins_of trees)

@@ -1,9 +1,8 @@
 //! The expansion of a record into its tree.
 ghost use Rattle.std.specs.Prelude.{◌≡◌, ◌≤◌, ◌+◌, length, reverse, IfErr, IfOk, OnOk};
 ghost use Rattle.expansion_laws.specs.Expansion.{IsNumberOf, NamesAbove, tree_of_number};
-ghost use Rattle.expansion_laws.specs.Measures.{use_count};
 ghost use Rattle.expansion_laws.specs.Plain.{shown_tree};
-ghost use Rattle.expansion_laws.specs.PlainFile.{rows, IsDueExpansion};
+ghost use Rattle.expansion_laws.specs.PlainFile.{rows, uses_under, IsDueExpansion};
 
 use crate::fault::ExpandFault;
 use crate::plain::{Tree, use_of};
@@ -22,8 +21,8 @@ pub fn expand(
     requires number { IsNumberOf (length records.now) number }
     requires names { NamesAbove 1 (reverse (rows records.now)) }
     ensures ok { IfOk result (λ x. shown_tree x ≡ tree_of_number (rows records.now) number) }
-    ensures within { OnOk result (use_count (tree_of_number (rows records.now) number) ≤ budget) }
-    ensures refused { IfErr result (λ fault. IsDueExpansion (use_count (tree_of_number (rows records.now) number)) budget fault) }
+    ensures within { OnOk result (uses_under records.now number ≤ budget) }
+    ensures refused { IfErr result (λ fault. IsDueExpansion (uses_under records.now number) budget fault) }
 {
     let expanded = expand_within(alloc, records, number, budget)?;
     Ok(expanded.tree)
@@ -46,8 +45,8 @@ fn expand_within(
     requires number { IsNumberOf (length records.now) number }
     requires names { NamesAbove 1 (reverse (rows records.now)) }
     ensures tree { IfOk result (λ e. shown_tree e.tree ≡ tree_of_number (rows records.now) number) }
-    ensures left { IfOk result (λ e. e.left + use_count (tree_of_number (rows records.now) number) ≡ budget) }
-    ensures refused { IfErr result (λ fault. IsDueExpansion (use_count (tree_of_number (rows records.now) number)) budget fault) }
+    ensures left { IfOk result (λ e. e.left + uses_under records.now number ≡ budget) }
+    ensures refused { IfErr result (λ fault. IsDueExpansion (uses_under records.now number) budget fault) }
 {
     let mut left = budget;
     let mut uses = Vec::new(alloc);

@@ -13,7 +13,8 @@ ghost use Rattle.expansion_laws.specs.SlowMeasures.{MeasuresByLists, HeldTreesBy
 ghost use Rattle.expansion_laws.specs.Ends.{EqualEndsTell, EndsComeOut};
 ghost use Rattle.expansion_laws.specs.Graph.{edges, NumbersCarry};
 ghost use Rattle.expansion_laws.specs.WholeVisits.{WholeListsHoldAll};
-ghost use Rattle.expansion_laws.specs.Keeping.{ResultsHaveTheKind, Passes, WhatIsKeptIsKept, OriginsStay, KindsStayInOrder, WordsStay};
+ghost use Rattle.expansion_laws.specs.Keeping.{ResultsHaveTheKind, Passes, WhatIsKeptIsKept};
+ghost use Rattle.expansion_laws.specs.Keeping.{OriginsStay, KindsStayInOrder, WordsStay};
 ghost use Rattle.expansion_laws.specs.Trees.{Tree, Use};
 ghost use Rattle.expansion_laws.specs.Equality.{tree_eq};
 ghost use Rattle.expansion_laws.specs.Expansion.{NumberedUse, IsFile};
@@ -23,7 +24,9 @@ ghost use Rattle.expansion_laws.specs.Walk.{RecordsAreTrees};
 ghost use Rattle.expansion_laws.specs.Steps.{Step};
 ghost use Rattle.expansion_laws.specs.Subtrees.{SubtreesStand};
 ghost use Rattle.expansion_laws.specs.Examples.{ExamplesComeOut};
-ghost use Rattle.expansion_laws.specs.RewritingLaws.{IsLeast, IsDetermined, RankedUsesHaveResults, ResultsAreCarried, ResultsDependOnKeyAlone, DemandsAreEdges, ResultsAreGathered, VisitsAreListed, KeysStandForVisits};
+ghost use Rattle.expansion_laws.specs.RewritingLaws.{IsLeast, IsDetermined, RankedUsesHaveResults};
+ghost use Rattle.expansion_laws.specs.RewritingLaws.{ResultsAreCarried, ResultsDependOnKeyAlone, DemandsAreEdges};
+ghost use Rattle.expansion_laws.specs.RewritingLaws.{ResultsAreGathered, VisitsAreListed, KeysStandForVisits};
 
 use location_words::laws::words_are_a_group;
 use orientation::laws::{signs_and_names_tell, turns_compose};

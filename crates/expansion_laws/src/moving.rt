@@ -1,14 +1,14 @@
 //! How a rewriting moves uses: the words that it forms are tested against the limits.
 ghost use Rattle.std.specs.Prelude.{◌≡◌, ◌∷◌, [], None, map, IfErr, IfOk, OnOk};
-ghost use Rattle.orientation.specs.Kinds.{kind_eq};
 ghost use Rattle.location_words.specs.Faults.{fault_of};
 ghost use Rattle.location_words.specs.Pairs.{mul as mul_of};
 ghost use Rattle.expansion_laws.specs.Trees.{uses};
 ghost use Rattle.expansion_laws.specs.Contexts.{carried};
-ghost use Rattle.expansion_laws.specs.Steps.{entered, is_entered, kind, new_use as new_use_of, onward as onward_of};
+ghost use Rattle.expansion_laws.specs.Steps.{entered, is_entered, kind};
 ghost use Rattle.expansion_laws.specs.Plain.{shown_tree, shown_use};
-ghost use Rattle.expansion_laws.specs.SlowRewriting.{kind_at, later_words};
-ghost use Rattle.expansion_laws.specs.SlowParts.{context, seen_use, step_by, under, words_of, Fail, IsDueWord, Pass};
+ghost use Rattle.expansion_laws.specs.SlowRewriting.{kind_at};
+ghost use Rattle.expansion_laws.specs.SlowCalls.{have_one_kind, use_instead, uses_onward, words_onward};
+ghost use Rattle.expansion_laws.specs.SlowParts.{seen_use, step_by, under, words_of, Fail, IsDueWord, Pass};
 
 use crate::fault::ExpandFault;
 use crate::plain::{Tree, TreeUse};
@@ -103,9 +103,9 @@ pub(crate) fn new_use<'a>(
     place: &Option<Word>,
     by: &'a TreeUse,
 ) -> Result<Seen<'a>, ExpandFault>
-    ensures ok { IfOk result (λ new. seen_use new ≡ new_use_of (context here.now) (seen_use one.now) place.now (shown_use by.now)) }
-    ensures within { OnOk result (fault_of (new_use_of (context here.now) (seen_use one.now) place.now (shown_use by.now)).word ≡ None) }
-    ensures refused { IfErr result (λ fault. IsDueWord (fault_of (new_use_of (context here.now) (seen_use one.now) place.now (shown_use by.now)).word) fault) }
+    ensures ok { IfOk result (λ new. seen_use new ≡ use_instead here.now one.now place.now by.now) }
+    ensures within { OnOk result (fault_of (use_instead here.now one.now place.now by.now).word ≡ None) }
+    ensures refused { IfErr result (IsDueWord (fault_of (use_instead here.now one.now place.now by.now).word)) }
 {
     let word = match place {
         None => tested(&one.word, &by.word)?,
@@ -136,7 +136,7 @@ fn kind_of(kinds: &[Kind], origin: u32) -> Kind
 
 /// Whether two trees have one kind.
 fn same_kind(rules: &Rules, a: &Tree, b: &Tree) -> bool
-    ensures { result ≡ kind_eq (kind (step_by rules.now) (shown_tree a.now)) (kind (step_by rules.now) (shown_tree b.now)) }
+    ensures { result ≡ have_one_kind rules.now a.now b.now }
 {
     kind_of(rules.kinds, a.origin) == kind_of(rules.kinds, b.origin)
 }
@@ -147,9 +147,9 @@ pub(crate) fn onward<'a>(
     source: &Tree,
     new: &Seen<'a>,
 ) -> Result<Vec<Seen<'a>>, ExpandFault>
-    ensures ok { IfOk result (λ next. map seen_use next.items ≡ onward_of (step_by rules.now) (shown_tree source.now) (seen_use new.now)) }
-    ensures within { OnOk result (Pass (later_words (step_by rules.now) (shown_tree source.now) (seen_use new.now))) }
-    ensures refused { IfErr result (λ fault. Fail (later_words (step_by rules.now) (shown_tree source.now) (seen_use new.now)) fault) }
+    ensures ok { IfOk result (λ next. map seen_use next.items ≡ uses_onward rules.now source.now new.now) }
+    ensures within { OnOk result (Pass (words_onward rules.now source.now new.now)) }
+    ensures refused { IfErr result (λ fault. Fail (words_onward rules.now source.now new.now) fault) }
 {
     let same = same_kind(rules, source, new.tree);
     if !same {

@@ -8,7 +8,8 @@ use location_words::Word;
 use orientation::Turn;
 use std::alloc::{AllocError, Global};
 
-/// A tree: an origin, which is the number of an input record or 0 for a compound made at the root, and uses in their order.
+/// A tree: an origin, which is the number of an input record or 0 for a compound made at the root, and uses in their
+/// order.
 #[derive(Drop)]
 #[cycle(plain)]
 pub struct Tree {

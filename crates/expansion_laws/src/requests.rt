@@ -1,9 +1,10 @@
 //! Requests on plain trees, and which of them an occurrence meets.
-ghost use Rattle.std.specs.Prelude.{◌≡◌, map};
+ghost use Rattle.std.specs.Prelude.{◌≡◌};
 ghost use Rattle.std.specs.Option.{option_map};
-ghost use Rattle.expansion_laws.specs.Requests.{fits as fits_at, match_of as match_at};
+ghost use Rattle.expansion_laws.specs.Requests.{fits as fits_at};
 ghost use Rattle.expansion_laws.specs.Plain.{shown_tree};
 ghost use Rattle.expansion_laws.specs.SlowRewriting.{shown_request};
+ghost use Rattle.expansion_laws.specs.SlowCalls.{met_request};
 ghost use Rattle.expansion_laws.specs.SlowParts.{context};
 
 use crate::moving::Here;
@@ -42,7 +43,7 @@ pub(crate) fn last_fitting<'a>(
     tree: &Tree,
     here: &Here,
 ) -> Option<&'a SlowRequest>
-    ensures { option_map (λ r. shown_request r.now) result ≡ match_at (map shown_request requests.now) (shown_tree tree.now) (context here.now) }
+    ensures { option_map (λ r. shown_request r.now) result ≡ met_request requests.now tree.now here.now }
 {
     let mut found = None;
     for request in requests {

@@ -3,12 +3,13 @@ ghost use Rattle.std.specs.Prelude.{◌≡◌, ◌∷◌, [], map, IfErr, IfOk, 
 ghost use Rattle.orientation.specs.declared.turn.Turn;
 ghost use Rattle.expansion_laws.specs.Trees.{a_single, tree_of};
 ghost use Rattle.expansion_laws.specs.Contexts.{inside as inside_of};
-ghost use Rattle.expansion_laws.specs.Requests.{replace as replacing};
 ghost use Rattle.expansion_laws.specs.Steps.{root_of};
-ghost use Rattle.expansion_laws.specs.Rewriting.{is_pruned as is_pruned_by, rebuilt as rebuilt_of, remains, StepsTo};
+ghost use Rattle.expansion_laws.specs.Rewriting.{is_pruned as is_pruned_by};
 ghost use Rattle.expansion_laws.specs.Plain.{shown_tree, shown_use};
-ghost use Rattle.expansion_laws.specs.SlowRewriting.{slow_outcome, slow_step, IsDueOutcome};
-ghost use Rattle.expansion_laws.specs.SlowParts.{context, part_of, part_of_act, part_of_all, part_of_match, part_of_remaining, seen_use, step_by, Gives, Refuses};
+ghost use Rattle.expansion_laws.specs.SlowRewriting.{IsDueOutcome};
+ghost use Rattle.expansion_laws.specs.SlowParts.{context, seen_use, step_by, Refuses};
+ghost use Rattle.expansion_laws.specs.SlowCalls.{match_part, rebuilt_use, remaining_part, remaining_uses, replace_part};
+ghost use Rattle.expansion_laws.specs.SlowCalls.{root_outcome, use_part, uses_part, GivesRewritten, RootBecomes};
 
 use crate::fault::ExpandFault;
 use crate::moving::{Here, Rules, Seen, entered_uses, enters, new_use, onward, own_use, tested};
@@ -18,10 +19,11 @@ use location_words::Word;
 use orientation::{Kind, Rule, Turn, compose};
 use std::alloc::{AllocError, Global};
 
-/// Rewrites the root by the rule: each occurrence meets the last request that fits it, and what comes of it is rewritten again.
+/// Rewrites the root by the rule: each occurrence meets the last request that fits it, and what comes of it is
+/// rewritten again.
 ///
-/// Origin `k` has the kind `kinds[k - 1]`, and any other origin is a compound. What no request meets is gone through by `rule`. There are
-/// at most `budget` visits.
+/// Origin `k` has the kind `kinds[k - 1]`, and any other origin is a compound. What no request meets is gone through by
+/// `rule`. There are at most `budget` visits.
 pub fn rewrite_slow(
     alloc: Global,
     root: &TreeUse,
@@ -30,9 +32,9 @@ pub fn rewrite_slow(
     rule: Rule,
     budget: u64,
 ) -> Result<TreeUse, ExpandFault>
-    ensures ok { IfOk result (λ new. StepsTo (slow_step requests.now kinds.now rule) (shown_use root.now) (shown_use new)) }
-    ensures within { OnOk result (IsOk (slow_outcome (slow_step requests.now kinds.now rule) (shown_use root.now) budget)) }
-    ensures refused { IfErr result (λ fault. IsDueOutcome (slow_outcome (slow_step requests.now kinds.now rule) (shown_use root.now) budget) fault) }
+    ensures ok { IfOk result (λ new. RootBecomes requests.now kinds.now rule root.now new) }
+    ensures within { OnOk result (IsOk (root_outcome requests.now kinds.now rule root.now budget)) }
+    ensures refused { IfErr result (IsDueOutcome (root_outcome requests.now kinds.now rule root.now budget)) }
 {
     let rules = Rules {
         alloc,
@@ -93,8 +95,8 @@ struct Rewritten {
 /// Rewrites a use in a context.
 #[cycle(rewrite)]
 fn rewrite_use(rules: &Rules, here: &Here, one: &Seen, left: u64) -> Result<Rewritten, ExpandFault>
-    ensures ok { IfOk result (λ r. Gives (part_of (step_by rules.now) (context here.now) (seen_use one.now)) left (map shown_use r.results.items) r.left) }
-    ensures refused { IfErr result (λ fault. Refuses (part_of (step_by rules.now) (context here.now) (seen_use one.now)) left fault) }
+    ensures ok { IfOk result (λ r. GivesRewritten (use_part rules.now here.now one.now) left r) }
+    ensures refused { IfErr result (Refuses (use_part rules.now here.now one.now) left) }
 {
     if left == 0 {
         return Err(ExpandFault::TooBig);
@@ -117,8 +119,8 @@ fn rewrite_matched(
     left: u64,
 ) -> Result<Rewritten, ExpandFault>
     requires { context inside.now ≡ inside_of (context here.now) (seen_use one.now) }
-    ensures ok { IfOk result (λ r. Gives (part_of_match (step_by rules.now) (context here.now) (seen_use one.now)) left (map shown_use r.results.items) r.left) }
-    ensures refused { IfErr result (λ fault. Refuses (part_of_match (step_by rules.now) (context here.now) (seen_use one.now)) left fault) }
+    ensures ok { IfOk result (λ r. GivesRewritten (match_part rules.now here.now one.now) left r) }
+    ensures refused { IfErr result (Refuses (match_part rules.now here.now one.now) left) }
 {
     match last_fitting(rules.requests, one.tree, inside) {
         None => go_through(rules, inside, one, left),
@@ -135,8 +137,8 @@ fn rewrite_matched(
 /// Goes through a use that no request meets.
 #[cycle(rewrite)]
 fn go_through(rules: &Rules, inside: &Here, one: &Seen, left: u64) -> Result<Rewritten, ExpandFault>
-    ensures ok { IfOk result (λ r. Gives (part_of_remaining (step_by rules.now) (context inside.now) (seen_use one.now)) left (map shown_use r.results.items) r.left) }
-    ensures refused { IfErr result (λ fault. Refuses (part_of_remaining (step_by rules.now) (context inside.now) (seen_use one.now)) left fault) }
+    ensures ok { IfOk result (λ r. GivesRewritten (remaining_part rules.now inside.now one.now) left r) }
+    ensures refused { IfErr result (Refuses (remaining_part rules.now inside.now one.now) left) }
 {
     let Ok(own) = entered_uses(rules, one.tree) else {
         return Err(ExpandFault::NoMemory);
@@ -153,7 +155,7 @@ fn go_through(rules: &Rules, inside: &Here, one: &Seen, left: u64) -> Result<Rew
 
 /// What remains of a use that no request meets, over the results of the uses that are gone through.
 fn remaining(rules: &Rules, one: &Seen, below: Vec<TreeUse>) -> Result<Vec<TreeUse>, AllocError>
-    ensures { IfOk result (λ results. map shown_use results.items ≡ remains (step_by rules.now) (seen_use one.now) (map shown_use below.items)) }
+    ensures { IfOk result (λ results. map shown_use results.items ≡ remaining_uses rules.now one.now below.items) }
 {
     if !enters(rules, one.tree) {
         let same = unchanged(rules.alloc, one)?;
@@ -187,7 +189,7 @@ fn unchanged(alloc: Global, one: &Seen) -> Result<Vec<TreeUse>, AllocError>
 
 /// A use with other uses in its tree, as the one result.
 fn rebuilt(alloc: Global, one: &Seen, below: Vec<TreeUse>) -> Result<Vec<TreeUse>, AllocError>
-    ensures { IfOk result (λ results. map shown_use results.items ≡ rebuilt_of (seen_use one.now) (map shown_use below.items) ∷ []) }
+    ensures { IfOk result (λ results. map shown_use results.items ≡ rebuilt_use one.now below.items ∷ []) }
 {
     let tree = Tree {
         origin: one.tree.origin,
@@ -209,10 +211,8 @@ fn replace(
     by: &TreeUse,
     left: u64,
 ) -> Result<Rewritten, ExpandFault>
-    ensures ok { IfOk result (λ r. Gives (part_of_act (step_by rules.now) (context here.now) (seen_use one.now) place.now (replacing (shown_use by.now))) left
-        (map shown_use r.results.items) r.left) }
-    ensures refused { IfErr result (λ fault. Refuses (part_of_act (step_by rules.now) (context here.now) (seen_use one.now) place.now (replacing (shown_use by.now))) left
-        fault) }
+    ensures ok { IfOk result (λ r. GivesRewritten (replace_part rules.now here.now one.now place.now by.now) left r) }
+    ensures refused { IfErr result (Refuses (replace_part rules.now here.now one.now place.now by.now) left) }
 {
     let new = new_use(here, one, place, by)?;
     let next = onward(rules, one.tree, &new)?;
@@ -228,8 +228,8 @@ fn rewrite_each(
     uses: &[Seen],
     left: u64,
 ) -> Result<Rewritten, ExpandFault>
-    ensures ok { IfOk result (λ r. Gives (part_of_all (step_by rules.now) (context here.now) (map seen_use uses.now)) left (map shown_use r.results.items) r.left) }
-    ensures refused { IfErr result (λ fault. Refuses (part_of_all (step_by rules.now) (context here.now) (map seen_use uses.now)) left fault) }
+    ensures ok { IfOk result (λ r. GivesRewritten (uses_part rules.now here.now uses.now) left r) }
+    ensures refused { IfErr result (Refuses (uses_part rules.now here.now uses.now) left) }
 {
     let mut results = Vec::new(rules.alloc);
     let mut rest = left;

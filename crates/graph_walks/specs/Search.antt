@@ -37,8 +37,8 @@ module _ (graph : List (List ℕ)) where
   Resumes [] found = found ≡ None
   Resumes (f ∷ frames) found =
       let left = drop f.next (ends_of graph f.node) in
-      ((walk : List ℕ) × (found ≡ Some walk) × SearchesEach (ends_of graph) (f.node ∷ path_of frames) left
-      (Some walk)) ⊎
+      ((walk : List ℕ) × (found ≡ Some walk) ×
+      SearchesEach (ends_of graph) (f.node ∷ path_of frames) left (Some walk)) ⊎
       (SearchesEach (ends_of graph) (f.node ∷ path_of frames) left None × Resumes frames found)
 
   -- a node of the graph, with so many edges at least

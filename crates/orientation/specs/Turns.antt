@@ -27,8 +27,10 @@ sign_of External = 101
 -- the turn that a code is the sign of
 abbrev pub turn_of : ℕ → Option Turn
 turn_of b =
-    if b == 43 then Some Forward else (if b == 45 then Some Reversed
-    else (if b == 105 then Some Internal else (if b == 101 then Some External else None)))
+    if b == 43 then Some Forward
+    else (if b == 45 then Some Reversed
+    else (if b == 105 then Some Internal
+    else (if b == 101 then Some External else None)))
 
 -- whether two turns are one
 abbrev pub turn_eq : Turn → Turn → Bool

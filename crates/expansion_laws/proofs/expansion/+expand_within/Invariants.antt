@@ -12,5 +12,6 @@ decreases-expand_within l = length l.records.now - l.number
 
 abbrev pub invariant-loop-u : goal.invariant-loop-u
 invariant-loop-u l =
-    (map shown_use l.uses.items ≡ map (expanded 1 (trees_of_file (rows l.records))) (map numbered_use (take l.u-index l.u-items))) ×
+    (map shown_use l.uses.items ≡ map (expanded 1 (trees_of_file (rows l.records)))
+    (map numbered_use (take l.u-index l.u-items))) ×
     (l.left + uses_count (uses_of (map shown_use l.uses.items)) ≡ l.budget)

@@ -7,4 +7,5 @@ use Rattle.expansion_laws.proofs.plain.+copied.Goals as goal
 
 pub copied-returns : goal.copied-returns
 copied-returns t c =
-    copied-whole c.args.tree.now (record { origin = (out-Tree c.args.tree.now).origin; uses = c.in_ok-uses.uses }) refl (c.in_ok-uses.ensures ∙ ap (map shown_use) c.deref.ensures.value)
+    copied-whole c.args.tree.now (record { origin = (out-Tree c.args.tree.now).origin; uses = c.in_ok-uses.uses }) refl
+    (c.in_ok-uses.ensures ∙ ap (map shown_use) c.deref.ensures.value)

@@ -17,15 +17,19 @@ pub loop-request-preserved : goal.loop-request-preserved
 loop-request-preserved c = elim c.if-fits.branch [
   | then-fits w ↦
       ap (option_map (λ r. shown_request r.now)) w.found-is
-      ∙ match-fits shown_request (shown_tree c.args.tree.now) (context c.args.here.now) c.args.requests.now c.loop-request.request-index c.request-item.result c.loop-request-test.true c.request-item.is
+      ∙ match-fits shown_request (shown_tree c.args.tree.now) (context c.args.here.now) c.args.requests.now
+      c.loop-request.request-index c.request-item.result c.loop-request-test.true c.request-item.is
       (sym w.if-fits.true ∙ c.fits.ensures)
   | else-fits w ↦
       ap (option_map (λ r. shown_request r.now)) w.found-is
-      ∙ match-other shown_request (shown_tree c.args.tree.now) (context c.args.here.now) c.args.requests.now c.loop-request.request-index c.request-item.result c.loop-request-test.true c.request-item.is
-      (option_map (λ r. shown_request r.now) c.loop-request.found) (sym w.if-fits.false ∙ c.fits.ensures) c.loop-request.invariant
+      ∙ match-other shown_request (shown_tree c.args.tree.now) (context c.args.here.now) c.args.requests.now
+      c.loop-request.request-index c.request-item.result c.loop-request-test.true c.request-item.is
+      (option_map (λ r. shown_request r.now) c.loop-request.found) (sym w.if-fits.false ∙ c.fits.ensures)
+      c.loop-request.invariant
 ]
 
 pub returns : goal.returns
 returns c =
     c.loop-request.invariant
-    ∙ ap (λ rs. match_of rs (shown_tree c.args.tree.now) (context c.args.here.now)) (take-map-all shown_request c.args.requests.now c.loop-request.request-index c.loop-request-test.false)
+    ∙ ap (λ rs. match_of rs (shown_tree c.args.tree.now) (context c.args.here.now))
+    (take-map-all shown_request c.args.requests.now c.loop-request.request-index c.loop-request-test.false)

@@ -9,4 +9,5 @@ use Rattle.expansion_laws.proofs.requests.last_fitting.Given as goal
 
 abbrev pub invariant-loop-request : goal.invariant-loop-request
 invariant-loop-request l =
-    option_map (λ r. shown_request r.now) l.found ≡ match_of (take l.request-index (map shown_request l.requests)) (shown_tree l.tree) (context l.here)
+    option_map (λ r. shown_request r.now) l.found ≡
+    match_of (take l.request-index (map shown_request l.requests)) (shown_tree l.tree) (context l.here)

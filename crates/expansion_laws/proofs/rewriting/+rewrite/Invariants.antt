@@ -21,4 +21,5 @@ decreases-rewrite_each l = 5 * l.left + 2
 
 abbrev pub invariant-rewrite_each-loop-i : goal.invariant-rewrite_each-loop-i
 invariant-rewrite_each-loop-i l =
-    Gives (part_of_all (step_by l.rules) (context l.here) (take l.i (map seen_use l.uses))) l.left (map shown_use l.results.items) l.rest
+    Gives (part_of_all (step_by l.rules) (context l.here) (take l.i (map seen_use l.uses))) l.left
+    (map shown_use l.results.items) l.rest

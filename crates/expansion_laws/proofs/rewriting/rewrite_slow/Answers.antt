@@ -14,7 +14,8 @@ returns-in-Ok-new_root-clause-ok c =
       map shown_use c.in_ok-rewritten.rewritten.results.items,
       (
         suc c.args.budget,
-        (λ i. results_within (slow_step c.args.requests.now c.args.kinds.now c.args.rule) (suc c.args.budget) (record { turn = Forward; word = sym c.identity.ensures i }) (sym c.in-Ok.ensures i)) ∙ found,
+        (λ i. results_within (slow_step c.args.requests.now c.args.kinds.now c.args.rule) (suc c.args.budget)
+            (record { turn = Forward; word = sym c.identity.ensures i }) (sym c.in-Ok.ensures i)) ∙ found,
       ),
       c.in-Ok-new_root.ensures,
     )
