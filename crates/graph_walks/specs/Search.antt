@@ -30,6 +30,11 @@ IsFound graph root (Order order) = IsOrderFrom graph root order.items
 abbrev pub path_of : List Frame → List ℕ
 path_of frames = map (λ f. f.node) frames
 
+-- the walk that an edge back to a node of the path closes: the path from that node on, and that node again
+abbrev pub IsClosedAt : List ℕ → ℕ → List ℕ → Type 0
+IsClosedAt path end walk =
+    (older : List ℕ) × (newer : List ℕ) × (path ≡ older ++ end ∷ newer) × (walk ≡ end ∷ newer ++ end ∷ [])
+
 module _ (graph : List (List ℕ)) where
   -- what the search of the root finds, where the last frames are resumed each at its next edge; frames from last to
   -- first

@@ -1,10 +1,10 @@
 //! Depth first search of a graph of numbered nodes.
 ghost use Rattle.graph_walks.specs.Graph.{ends_of, EndsAreNodes};
-ghost use Rattle.graph_walks.specs.Search.{IsFound};
+ghost use Rattle.graph_walks.specs.Search.{path_of, IsClosedAt, IsFound};
 ghost use Rattle.graph_walks.specs.Walks.{HasCycle};
 ghost use Rattle.graph_walks.specs.declared.depth_first.Mark.TheVariants.{New};
-ghost use Rattle.std.specs.Prelude.{◌≡◌, ◌<◌, ◌+◌, ◌^◌, ℕ, List, IfOk, IfSome, IsTrue, ◌↔◌};
-ghost use Rattle.std.specs.Prelude.{length, map, Contains, ◌++◌, ◌∷◌, [], replicate, slice_get};
+ghost use Rattle.std.specs.Prelude.{◌≡◌, ◌<◌, ◌+◌, ◌^◌, IfOk, IfSome, IsTrue, ◌↔◌};
+ghost use Rattle.std.specs.Prelude.{length, Contains, replicate, slice_get};
 
 use crate::graph::Graph;
 use std::alloc::{AllocError, Global};
@@ -106,9 +106,8 @@ fn next_end(graph: &Graph, frame: Frame) -> Option<u32>
 
 /// The path from a node on, and that node again.
 fn closed(alloc: Global, path: &[Frame], end: u32) -> Result<Vec<u32>, AllocError>
-    requires { Contains (map (λ f. f.node) path.now) end }
-    ensures { IfOk result (λ walk. (older : List ℕ) × (newer : List ℕ)
-        × (map (λ f. f.node) path.now ≡ older ++ end ∷ newer) × (walk.items ≡ end ∷ newer ++ end ∷ [])) }
+    requires { Contains (path_of path.now) end }
+    ensures { IfOk result (λ walk. IsClosedAt (path_of path.now) end walk.items) }
 {
     let mut walk = Vec::new(alloc);
     let mut met = false;

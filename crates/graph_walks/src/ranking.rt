@@ -1,7 +1,8 @@
 //! Ranks of numbered nodes.
 ghost use Rattle.graph_walks.specs.Graph.{ends_of, EndsAreNodes};
-ghost use Rattle.graph_walks.specs.Walks.{IsFinishOrder, IsRank, rank_over};
-ghost use Rattle.std.specs.Prelude.{◌≡◌, ◌<◌, ℕ, IfOk, All, length, reverse, Contains, ◌^◌, slice_index_or};
+ghost use Rattle.graph_walks.specs.Ranks.{AreZeroBeside, HaveRanks};
+ghost use Rattle.graph_walks.specs.Walks.{IsFinishOrder, rank_over};
+ghost use Rattle.std.specs.Prelude.{◌≡◌, ◌<◌, IfOk, All, length, reverse, ◌^◌, slice_index_or};
 
 use crate::graph::Graph;
 use std::alloc::{AllocError, Global};
@@ -28,10 +29,8 @@ pub fn ranks(alloc: Global, graph: &Graph, order: &[u32]) -> Result<Vec<usize>, 
     requires within { All (λ x. x < length graph.now) order.now }
     requires order { IsFinishOrder (ends_of graph.now) (reverse order.now) }
     ensures long { IfOk result (λ ranks. length ranks.items ≡ length graph.now) }
-    ensures ranked { IfOk result (λ ranks. (x : ℕ) → Contains order.now x
-        → IsRank (ends_of graph.now) x (slice_index_or ranks.items x 0)) }
-    ensures others { IfOk result (λ ranks. (x : ℕ) → (Contains order.now x → ⊥)
-        → slice_index_or ranks.items x 0 ≡ 0) }
+    ensures ranked { IfOk result (λ ranks. HaveRanks graph.now order.now ranks.items) }
+    ensures others { IfOk result (λ ranks. AreZeroBeside order.now ranks.items) }
 {
     let mut ranks = Vec::new(alloc);
     for _ in 0..graph.len() {
