@@ -1,5 +1,6 @@
 -- Handing nodes in, and looking them up.
-use Rattle.std.proofs.Common.{◌≡◌, ◌≤◌, ◌<◌, ◌≢◌, ℕ, suc, List, map, length, All, arith, sym, ◌∙◌, ap, subst, refl, slice_get, slice_index_or, Result, Ok, Err, Some}
+use Rattle.std.proofs.Common.{◌≡◌, ◌≤◌, ◌<◌, ◌≢◌, ℕ, suc, List, map, length, All, arith, sym, ◌∙◌}
+use Rattle.std.proofs.Common.{ap, subst, refl, slice_get, slice_index_or, Result, Ok, Err, Some}
 use Rattle.std.specs.Result.{IfErr, IsErrAnd}
 use Rattle.std.specs.Option.{option_map}
 use Rattle.std.proofs.lemmas.List.{length-map}
@@ -22,7 +23,8 @@ use Rattle.shape_pool.proofs.HeldLaws.{node-tree}
 use Rattle.shape_pool.proofs.IndexLaws.{found-as, missing-as, greatest-rows}
 
 -- a fault that is passed on
-pub IfErr-on : {A : Type 0} (r : Result A PoolFault) (e : PoolFault) (P : PoolFault → Type 0) → IsErrAnd r (λ z. z ≡ e) → P e → IfErr r P
+pub IfErr-on : {A : Type 0} (r : Result A PoolFault) (e : PoolFault) (P : PoolFault → Type 0) →
+    IsErrAnd r (λ z. z ≡ e) → P e → IfErr r P
 IfErr-on (Ok u) e P wrong h = absurd wrong
 IfErr-on (Err z) e P is h = subst P (sym is) h
 
@@ -34,7 +36,8 @@ module _ (held : List Held) (us : List UseOf) (all : AllHeld (rows_of held) us) 
     depth-rows : suc (greatest (stored_depth held) us) ≡ depth_over (rows_of held) us
     depth-rows = greatest-rows held p us uses-within
 
-    pub refused-deep : (f : PoolFault) → IsTooDeep (suc (greatest (stored_depth held) us)) f → IsRefused (rows_of held) o us f
+    pub refused-deep : (f : PoolFault) → IsTooDeep (suc (greatest (stored_depth held) us)) f →
+        IsRefused (rows_of held) o us f
     refused-deep (TooMany n) t = absurd t
     refused-deep (TooDeep n) t = (subst (λ d. most_depth < d) depth-rows t.0, t.1 ∙ depth-rows)
     refused-deep NoMemory t = t
@@ -43,7 +46,8 @@ module _ (held : List Held) (us : List UseOf) (all : AllHeld (rows_of held) us) 
       pub within : depth_over (rows_of held) us ≤ most_depth
       within = subst (λ d. d ≤ most_depth) (over.depth ∙ depth-rows) over.shallow
 
-      pub refused-many : (f : PoolFault) → ((n : ℕ) → f ≡ TooMany n → HasNone held h.node.value × (length held ≡ most_nodes) × (n ≡ suc most_nodes)) →
+      pub refused-many : (f : PoolFault) → ((n : ℕ) → f ≡ TooMany n →
+          HasNone held h.node.value × (length held ≡ most_nodes) × (n ≡ suc most_nodes)) →
           ((n : ℕ) → f ≢ TooDeep n) → IsRefused (rows_of held) o us f
       refused-many (TooMany n) many deep =
           let m = many n refl in
@@ -79,7 +83,9 @@ module _ (held : List Held) (rows : List Row) (v : rows_of held ≡ rows) where
     pub node-tree-at : (word : ℕ → List Pair) → tree_of_node word h.node.value ≡ tree_at word rows i
     node-tree-at word = node-tree word held p i h e ∙ ap (λ rs. tree_at word rs i) v
 
-    pub node-shared : All (λ (u : NodeUse). (word : ℕ → List Pair) → tree_of_node word (used_node u) ≡ tree_at word rows (node_id (used_node u))) (node_uses h.node.value)
+    pub node-shared : All (λ (u : NodeUse). (word : ℕ → List Pair) →
+        tree_of_node word (used_node u) ≡ tree_at word rows (node_id (used_node u))) (node_uses h.node.value)
     node-shared = λ k d lt. let s = p.shared i h e k d lt in
-        λ word. ap (tree_of_node word) s.2 ∙ node-tree word held p (node_id (used_node (slice_index_or (node_uses h.node.value) k d))) s.0 s.1 ∙
+        λ word. ap (tree_of_node word) s.2 ∙ node-tree word held p
+        (node_id (used_node (slice_index_or (node_uses h.node.value) k d))) s.0 s.1 ∙
         ap (λ rs. tree_at word rs (node_id (used_node (slice_index_or (node_uses h.node.value) k d)))) v

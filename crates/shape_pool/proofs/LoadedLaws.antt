@@ -1,5 +1,6 @@
 -- Which origins are loaded, and under which numbers.
-use Rattle.std.proofs.Common.{◌≡◌, ◌≤◌, ◌<◌, ◌⊎◌, ℕ, zero, suc, List, ◌++◌, ◌∷◌, [], length, take, arith, sym, ◌∙◌, ap, subst, Option, Some, None, inl, inr, nat_eq, false, eqb-true, eq-eqb, true≢false}
+use Rattle.std.proofs.Common.{◌≡◌, ◌≤◌, ◌<◌, ◌⊎◌, ℕ, zero, suc, List, ◌++◌, ◌∷◌, [], length, take, arith, sym, ◌∙◌}
+use Rattle.std.proofs.Common.{ap, subst, Option, Some, None, inl, inr, nat_eq, false, eqb-true, eq-eqb, true≢false}
 use Rattle.std.specs.Prelude.{nat_lt}
 use Rattle.std.proofs.lemmas.Bool.{ltb-true, ltb-false}
 use Rattle.std.proofs.lemmas.Option.{slice_get_within}
@@ -27,7 +28,8 @@ first-of (r ∷ rows) o = by_test (nat_eq r.origin o)
     not_here : nat_eq r.origin o ≡ false → IsOf (r ∷ rows) o 0 → ⊥
     not_here e h = true≢false (sym (eq-eqb r.origin o h.1) ∙ e)
 
-    later : nat_eq r.origin o ≡ false → (j : ℕ) → IsOf (r ∷ rows) o j → {i : ℕ} → ((k : ℕ) → IsOf rows o k → i ≤ k) → suc i ≤ j
+    later : nat_eq r.origin o ≡ false → (j : ℕ) → IsOf (r ∷ rows) o j → {i : ℕ} → ((k : ℕ) → IsOf rows o k → i ≤ k) →
+        suc i ≤ j
     later e zero h f = absurd (not_here e h)
     later e (suc j) h f = let a = h.0 in let b = f j (omega (arith, a), h.1) in omega (arith, b)
 
@@ -72,7 +74,9 @@ module _ (old : List Row) (r : Row) where
       (slice_get_within (old ++ r ∷ []) i _ e, origin-entry (old ++ r ∷ []) i e ∙ h.1)
 
   of-last : IsOf (old ++ r ∷ []) r.origin (length old)
-  of-last = let e = slice_get-last old r in (slice_get_within (old ++ r ∷ []) (length old) r e, origin-entry (old ++ r ∷ []) (length old) e)
+  of-last =
+      let e = slice_get-last old r in
+      (slice_get_within (old ++ r ∷ []) (length old) r e, origin-entry (old ++ r ∷ []) (length old) e)
 
   of-push : (o i : ℕ) → IsOf (old ++ r ∷ []) o i → IsOf old o i ⊎ ((i ≡ length old) × (r.origin ≡ o))
   of-push o i h = elim (slice_get-push old r _ i (entry (old ++ r ∷ []) i h.0)) [
@@ -142,7 +146,8 @@ module _ (old : List Row) (r : Row) where
 
     as-either : (o i : ℕ) → ((o ≡ r.origin) × (i ≡ length old)) ⊎ IsLoadedAs old o i → IsLoadedAs (old ++ r ∷ []) o i
     as-either o i c = elim c [
-      | inl e ↦ subst (λ q. IsLoadedAs (old ++ r ∷ []) q i) (sym e.0) (subst (IsLoadedAs (old ++ r ∷ []) r.origin) (sym e.1) last-as)
+      | inl e ↦ subst (λ q. IsLoadedAs (old ++ r ∷ []) q i) (sym e.0)
+          (subst (IsLoadedAs (old ++ r ∷ []) r.origin) (sym e.1) last-as)
       | inr l ↦ before-as o i l
     ]
 

@@ -1,5 +1,6 @@
 -- Nodes over held ones.
-use Rattle.std.proofs.Common.{◌≡◌, ◌<◌, ◌+◌, ℕ, List, map, take, ◌++◌, ◌∷◌, [], length, arith, sym, ◌∙◌, ap, subst, slice_get, slice_index_or, Some}
+use Rattle.std.proofs.Common.{◌≡◌, ◌<◌, ◌+◌, ℕ, List, map, take, ◌++◌, ◌∷◌, [], length}
+use Rattle.std.proofs.Common.{arith, sym, ◌∙◌, ap, subst, slice_get, slice_index_or, Some}
 use Rattle.std.specs.Prelude.{max}
 use Rattle.std.specs.Option.{option_map, option_map_or}
 use Rattle.std.proofs.lemmas.List.{map-append, take_more}
@@ -19,39 +20,53 @@ use Rattle.orientation.specs.declared.kind.Kind.TheVariants.{Co}
 use Rattle.orientation.specs.declared.kind.Kind.{Kind}
 use Rattle.orientation.specs.declared.turn.Turn.TheVariants.{Forward}
 
-greatest-push : (size : ℕ → ℕ) (us : List UseOf) (u : UseOf) → greatest size (us ++ u ∷ []) ≡ max (greatest size us) (size u.id.0)
+greatest-push : (size : ℕ → ℕ) (us : List UseOf) (u : UseOf) →
+    greatest size (us ++ u ∷ []) ≡ max (greatest size us) (size u.id.0)
 greatest-push size [] u = omega arith
 greatest-push size (v ∷ us) u = let h = greatest-push size us u in omega (arith, h)
 
 -- one more use
 pub greatest-more : (size : ℕ → ℕ) (uses : List UseOf) (i : ℕ) (d : UseOf) (deepest new : ℕ) → i < length uses →
-    deepest ≡ greatest size (take i uses) → new ≡ max deepest (size (slice_index_or uses i d).id.0) → new ≡ greatest size (take (i + 1) uses)
+    deepest ≡ greatest size (take i uses) → new ≡ max deepest (size (slice_index_or uses i d).id.0) →
+    new ≡ greatest size (take (i + 1) uses)
 greatest-more size uses i d deepest new lt is n =
-    n ∙ ap (λ k. max k (size (slice_index_or uses i d).id.0)) is ∙ sym (greatest-push size (take i uses) (slice_index_or uses i d)) ∙ ap (greatest size) (sym (take_more uses i d lt))
+    n ∙ ap (λ k. max k (size (slice_index_or uses i d).id.0)) is ∙
+    sym (greatest-push size (take i uses) (slice_index_or uses i d)) ∙ ap (greatest size) (sym (take_more uses i d lt))
 
 -- a use made of a copy of a held node
-pub use-made : (held : List Held) → HaveIds held → (u : UseOf) (m copy : Rc Node Global) → option_map (λ (h : Held). h.node) (slice_get held u.id.0) ≡ Some m → copy.value ≡ m.value →
-    (by_number (roll-NodeUse (record { turn = u.turn; place = u.place; node = copy })) ≡ u) × IsShared held (roll-NodeUse (record { turn = u.turn; place = u.place; node = copy }))
+pub use-made : (held : List Held) → HaveIds held → (u : UseOf) (m copy : Rc Node Global) →
+    option_map (λ (h : Held). h.node) (slice_get held u.id.0) ≡ Some m → copy.value ≡ m.value →
+    (by_number (roll-NodeUse (record { turn = u.turn; place = u.place; node = copy })) ≡ u) ×
+    IsShared held (roll-NodeUse (record { turn = u.turn; place = u.place; node = copy }))
 use-made held ids u m copy e is =
     let q = node-at held u.id.0 m e in
     let same : copy.value ≡ q.0.node.value = is ∙ ap (λ (x : Rc Node Global). x.value) (sym q.2) in
     let id : node_id copy.value ≡ u.id.0 = ap node_id same ∙ ids u.id.0 q.0 q.1 in
     let fields = out-roll-NodeUse (record { turn = u.turn; place = u.place; node = copy }) in
-    let number : NodeUse-F Node NodeUse → UseOf = λ n. record { turn = n.turn; place = n.place; id = (out-Node n.node.value).id } in
+    let number : NodeUse-F Node NodeUse → UseOf =
+    λ n. record { turn = n.turn; place = n.place; id = (out-Node n.node.value).id } in
     let named : (out-Node copy.value).id ≡ u.id = (λ j. record { 0 = id j }) in (
       ap number fields ∙ (λ j. record { turn = u.turn; place = u.place; id = named j }),
-      (q.0, ap (λ (n : NodeUse-F Node NodeUse). slice_get held (node_id n.node.value)) fields ∙ ap (slice_get held) id ∙ q.1, ap (λ (n : NodeUse-F Node NodeUse). n.node.value) fields ∙ same),
+      (
+        q.0,
+        ap (λ (n : NodeUse-F Node NodeUse). slice_get held (node_id n.node.value)) fields ∙ ap (slice_get held) id ∙
+            q.1,
+        ap (λ (n : NodeUse-F Node NodeUse). n.node.value) fields ∙ same,
+      ),
     )
 
-pub uses-more : (held : List Held) (uses : List UseOf) (made new : List NodeUse) (child : NodeUse) (i : ℕ) (d : UseOf) → i < length uses → new ≡ made ++ child ∷ [] →
-    by_number child ≡ slice_index_or uses i d → IsShared held child → AreUses held (take i uses) made → AreUses held (take (i + 1) uses) new
+pub uses-more : (held : List Held) (uses : List UseOf) (made new : List NodeUse) (child : NodeUse) (i : ℕ) (d : UseOf) →
+    i < length uses → new ≡ made ++ child ∷ [] →
+    by_number child ≡ slice_index_or uses i d → IsShared held child → AreUses held (take i uses) made →
+    AreUses held (take (i + 1) uses) new
 uses-more held uses made new child i d lt n is shared h = rw n (
   map-append by_number made (child ∷ []) ∙ (λ j. h.0 j ++ is j ∷ []) ∙ sym (take_more uses i d lt),
   All-push (IsShared held) made child h.1 shared,
 )
 
 -- a new node of these fields
-pub node-next : (held : List Held) (k : Kind) (o : ℕ) (us : List UseOf) (n : Node-F Node NodeUse) → n.id.0 ≡ length held → n.kind ≡ k → n.origin ≡ o → AreUses held us n.uses.items → IsNext held k o us (roll-Node n)
+pub node-next : (held : List Held) (k : Kind) (o : ℕ) (us : List UseOf) (n : Node-F Node NodeUse) →
+    n.id.0 ≡ length held → n.kind ≡ k → n.origin ≡ o → AreUses held us n.uses.items → IsNext held k o us (roll-Node n)
 node-next held k o us n id kind origin uses = record {
   id = ap (λ (m : Node-F Node NodeUse). m.id.0) (out-roll-Node n) ∙ id;
   kind = ap (λ (m : Node-F Node NodeUse). m.kind) (out-roll-Node n) ∙ kind;
@@ -64,12 +79,15 @@ abbrev pub any_use : UseOf
 any_use = record { turn = Forward; place = record { 0 = 0 }; id = record { 0 = 0 } }
 
 -- a held node's kind and origin over other uses
-pub changed-next : (held : List Held) (i : ℕ) (m : Rc Node Global) (us : List UseOf) (n : Node) → option_map (λ (h : Held). h.node) (slice_get held i) ≡ Some m →
-    node_id n ≡ length held → node_kind n ≡ node_kind m.value → node_origin n ≡ node_origin m.value → AreUses held us (node_uses n) →
+pub changed-next : (held : List Held) (i : ℕ) (m : Rc Node Global) (us : List UseOf) (n : Node) →
+    option_map (λ (h : Held). h.node) (slice_get held i) ≡ Some m →
+    node_id n ≡ length held → node_kind n ≡ node_kind m.value → node_origin n ≡ node_origin m.value →
+    AreUses held us (node_uses n) →
     IsNext held (kind_at (map row_of held) i) (origin_at (map row_of held) i) us n
 changed-next held i m us n e id kind origin uses =
     let q = node-at held i m e in
-    let at : slice_get (map row_of held) i ≡ Some (row_of q.0) = slice_get-map row_of held i ∙ ap (option_map row_of) q.1 in
+    let at : slice_get (map row_of held) i ≡ Some (row_of q.0) =
+    slice_get-map row_of held i ∙ ap (option_map row_of) q.1 in
     let same : m.value ≡ q.0.node.value = ap (λ (x : Rc Node Global). x.value) (sym q.2) in
     record {
       id = id;

@@ -6,7 +6,10 @@ use Rattle.expansion_laws.specs.Trees.{tree_of}
 use Rattle.shape_pool.specs.declared.node.UseOf.{UseOf}
 use Rattle.shape_pool.specs.declared.fault.PoolFault.{PoolFault}
 use Rattle.shape_pool.specs.declared.fault.PoolFault.TheVariants.{TooMany, TooDeep, NoMemory}
-use Rattle.shape_pool.specs.Rows.{Row, a_row, kind_at, origin_at, uses_at, use_by, tree_at, depth_over, AllPlaced, HasPlaces, most_depth, most_nodes}
+use Rattle.shape_pool.specs.declared.node.Node.{Node}
+use Rattle.shape_pool.specs.Nodes.{node_id, tree_of_node}
+use Rattle.shape_pool.specs.Rows.{Row, a_row, kind_at, origin_at, uses_at, use_by, tree_at}
+use Rattle.shape_pool.specs.Rows.{depth_over, AllPlaced, HasPlaces, most_depth, most_nodes}
 
 -- a held number of this origin; the first of them, under which the origin was loaded; whether it is loaded
 abbrev pub IsOf : List Row → ℕ → ℕ → Type 0
@@ -35,13 +38,26 @@ IsHandedIn old k o us new i =
     ((new ≡ old) × IsHeldAs old o us i) ⊎
     (((j : ℕ) → IsHeldAs old o us j → ⊥) × (new ≡ old ++ a_row k o us ∷ []) × (i ≡ length old))
 
+-- and so for a held number's kind and origin, over other uses
+abbrev pub IsNodeLike : List Row → ℕ → List UseOf → List Row → ℕ → Type 0
+IsNodeLike old id us new i = IsNode new (kind_at old id) (origin_at old id) us i
+
+abbrev pub IsHandedInLike : List Row → ℕ → List UseOf → List Row → ℕ → Type 0
+IsHandedInLike old id us new i = IsHandedIn old (kind_at old id) (origin_at old id) us new i
+
+-- a shared node stands for the tree of its number
+abbrev pub StandsForNumber : List Row → Node → Type 0
+StandsForNumber rows n = (word : ℕ → List Pair) → tree_of_node word n ≡ tree_at word rows (node_id n)
+
 -- a number stands for the tree of an origin over the trees that uses name
 abbrev pub IsTreeOver : List Row → ℕ → List UseOf → List Row → ℕ → Type 0
-IsTreeOver old o us new i = (word : ℕ → List Pair) → tree_at word new i ≡ tree_of o (map (use_by word (tree_at word old)) us)
+IsTreeOver old o us new i =
+    (word : ℕ → List Pair) → tree_at word new i ≡ tree_of o (map (use_by word (tree_at word old)) us)
 
 -- why a node is refused: its tree is too deep, or else it isn't held and would be one too many
 abbrev pub IsRefused : List Row → ℕ → List UseOf → PoolFault → Type 0
-IsRefused rows o us (TooMany n) = (depth_over rows us ≤ most_depth) × ((i : ℕ) → IsHeldAs rows o us i → ⊥) × (length rows ≡ most_nodes) × (n ≡ suc most_nodes)
+IsRefused rows o us (TooMany n) = (depth_over rows us ≤ most_depth) × ((i : ℕ) → IsHeldAs rows o us i → ⊥) ×
+    (length rows ≡ most_nodes) × (n ≡ suc most_nodes)
 IsRefused rows o us (TooDeep n) = (most_depth < depth_over rows us) × (n ≡ depth_over rows us)
 IsRefused rows o us NoMemory = Unit {0}
 

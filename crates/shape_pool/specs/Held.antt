@@ -1,5 +1,6 @@
 -- Nodes as the index of a pool holds them.
-use Rattle.std.specs.Prelude.{◌≡◌, ℕ, suc, ◌<◌, ◌≤◌, Bool, true, false, nat_eq, List, [], ◌∷◌, ◌++◌, ◌⊎◌, map, length, All, Option, Some, slice_get}
+use Rattle.std.specs.Prelude.{◌≡◌, ◌≢◌, ◌+◌, ℕ, suc, ◌<◌, ◌≤◌, Bool, true, false, nat_eq, List, []}
+use Rattle.std.specs.Prelude.{◌∷◌, ◌++◌, ◌⊎◌, map, length, All, Option, Some, slice_get}
 use Rattle.orientation.specs.declared.kind.Kind.{Kind}
 use Rattle.orientation.specs.declared.kind.Kind.TheVariants.{Co}
 use Rattle.shape_pool.specs.declared.node.Node.{Node}
@@ -17,11 +18,12 @@ use Rattle.std.specs.declared.rc.Rc.{Rc}
 use Rattle.orientation.specs.Turns.{sign_of}
 use Rattle.shape_pool.specs.declared.node.NodeId.{NodeId}
 use Rattle.shape_pool.specs.declared.node.UseOf.{UseOf}
-use Rattle.shape_pool.specs.Rows.{Row, a_row, AllBelow, depth_at, greatest, most_depth, most_nodes}
+use Rattle.shape_pool.specs.Rows.{Row, a_row, kind_at, origin_at, AllBelow, depth_at, greatest, most_depth, most_nodes}
 use Rattle.shape_pool.specs.Calls.{IsLoadedAs, IsOf}
 use Rattle.shape_pool.specs.declared.fault.PoolFault.{PoolFault}
 use Rattle.shape_pool.specs.declared.fault.PoolFault.TheVariants.{TooMany, TooDeep, NoMemory}
-use Rattle.shape_pool.specs.Nodes.{by_number, node_eq, node_kind, node_id, node_origin, node_uses, used_node, use_eq, use_input}
+use Rattle.shape_pool.specs.Nodes.{by_number, node_eq, node_kind, node_id, node_origin}
+use Rattle.shape_pool.specs.Nodes.{node_uses, used_node, use_eq, use_input}
 
 -- whether two made nodes are one: they have one origin and one list of uses
 abbrev pub made_eq : Made → Made → Bool
@@ -35,15 +37,19 @@ made_input m = fed.u32 (node_origin m.node.value) ++ fed.slice use_input (node_u
 pub use_equiv : IsEquivalence use_eq
 use_equiv =
     and_equiv (on_equiv (λ u. sign_of (out-NodeUse u).turn) nat_eq_equiv)
-    (and_equiv (on_equiv (λ u. (out-NodeUse u).place.0) nat_eq_equiv) (on_equiv (λ u. node_id (used_node u)) nat_eq_equiv))
+    (and_equiv (on_equiv (λ u. (out-NodeUse u).place.0) nat_eq_equiv)
+    (on_equiv (λ u. node_id (used_node u)) nat_eq_equiv))
 
 pub made_equiv : IsEquivalence made_eq
-made_equiv = and_equiv (on_equiv (λ m. node_origin m.node.value) nat_eq_equiv) (on_equiv (λ m. node_uses m.node.value) (lists_equiv use_equiv))
+made_equiv =
+    and_equiv (on_equiv (λ m. node_origin m.node.value) nat_eq_equiv)
+    (on_equiv (λ m. node_uses m.node.value) (lists_equiv use_equiv))
 
 use_alike : Alike use_eq use_input
 use_alike =
     and-Alike (on_Alike (λ u. sign_of (out-NodeUse u).turn) (same_Alike fed.u8 unsigned_Decides))
-    (and-Alike (on_Alike (λ u. (out-NodeUse u).place.0) (same_Alike fed.usize unsigned_Decides)) (on_Alike (λ u. node_id (used_node u)) (same_Alike fed.u32 unsigned_Decides)))
+    (and-Alike (on_Alike (λ u. (out-NodeUse u).place.0) (same_Alike fed.usize unsigned_Decides))
+    (on_Alike (λ u. node_id (used_node u)) (same_Alike fed.u32 unsigned_Decides)))
 
 pub made_alike : Alike made_eq made_input
 made_alike =
@@ -54,13 +60,15 @@ made_alike =
 abbrev pub HaveKind : List Row → ℕ → Kind → Type 0
 HaveKind rows o k = (j : ℕ) (q : Row) → slice_get rows j ≡ Some q → q.origin ≡ o → q.kind ≡ k
 
--- Each row names rows before it, of kinds below its own. No two rows have one origin and the same uses, rows of one origin
--- have one kind, which is a compound's for origin 0, and both limits are kept.
+-- Each row names rows before it, of kinds below its own. No two rows have one origin and the same uses, rows of one
+-- origin have one kind, which is a compound's for origin 0, and both limits are kept.
 pub record IsRows (rows : List Row) : Type 0 where
   pub before : (i : ℕ) (r : Row) → slice_get rows i ≡ Some r → All (λ (u : UseOf). u.id.0 < i) r.uses
   pub below : (i : ℕ) (r : Row) → slice_get rows i ≡ Some r → AllBelow rows r.kind r.uses
-  pub distinct : (i j : ℕ) (r q : Row) → slice_get rows i ≡ Some r → slice_get rows j ≡ Some q → r.origin ≡ q.origin → r.uses ≡ q.uses → i ≡ j
-  pub kinds : (i j : ℕ) (r q : Row) → slice_get rows i ≡ Some r → slice_get rows j ≡ Some q → r.origin ≡ q.origin → r.kind ≡ q.kind
+  pub distinct : (i j : ℕ) (r q : Row) → slice_get rows i ≡ Some r → slice_get rows j ≡ Some q → r.origin ≡ q.origin →
+      r.uses ≡ q.uses → i ≡ j
+  pub kinds : (i j : ℕ) (r q : Row) → slice_get rows i ≡ Some r → slice_get rows j ≡ Some q → r.origin ≡ q.origin →
+      r.kind ≡ q.kind
   pub compounds : (i : ℕ) (r : Row) → slice_get rows i ≡ Some r → r.origin ≡ 0 → r.kind ≡ Co
   pub shallow : (i : ℕ) → depth_at rows i ≤ most_depth
   pub few : length rows ≤ most_nodes
@@ -72,6 +80,10 @@ row_of h = a_row (node_kind h.node.value) (node_origin h.node.value) (map by_num
 -- the stored depth at a place
 abbrev pub stored_depth : List Held → ℕ → ℕ
 stored_depth held i = option_map_or (λ (h : Held). h.depth) (slice_get held i) 0
+
+-- the depth of a tree over uses, by the stored ones
+abbrev pub stored_depth_over : List Held → List UseOf → ℕ
+stored_depth_over held us = suc (greatest (stored_depth held) us)
 
 -- each held node has its place as its number
 abbrev pub HaveIds : List Held → Type 0
@@ -89,8 +101,8 @@ AreUses held us made = (map by_number made ≡ us) × All (IsShared held) made
 abbrev pub rows_of : List Held → List Row
 rows_of held = map row_of held
 
--- The nodes held are those of the rows: each has its place as its number, shares the nodes that its row names, and stands
--- beside its depth.
+-- The nodes held are those of the rows: each has its place as its number, shares the nodes that its row names, and
+-- stands beside its depth.
 pub record IsIndex (held : List Held) : Type 0 where
   pub rows : IsRows (map row_of held)
   pub ids : HaveIds held
@@ -110,15 +122,34 @@ HasAlike held n i = (h : Held) × (slice_get held i ≡ Some h) × (node_eq n h.
 abbrev pub HasNone : List Held → Node → Type 0
 HasNone held n = (i : ℕ) (h : Held) → slice_get held i ≡ Some h → node_eq n h.node.value ≡ false
 
+-- there is none among the nodes that their origins are loaded as
+abbrev pub HasNoneLoaded : List Held → Node → Type 0
+HasNoneLoaded held n = (i : ℕ) (h : Held) → slice_get held i ≡ Some h →
+    IsLoadedAs (rows_of held) (node_origin h.node.value) i → node_eq n h.node.value ≡ false
+
+-- no more nodes can be held, and there is none of the node's origin and uses: it would be one too many
+abbrev pub IsOneTooMany : List Held → Node → ℕ → Type 0
+IsOneTooMany held n count = HasNone held n × (length held ≡ most_nodes) × (count ≡ most_nodes + 1)
+
+-- the entries that stand at other places are kept
+abbrev pub KeepsOthers : ℕ → List NodeId → List NodeId → Type 0
+KeepsOthers place old new =
+    (q : ℕ) (n : NodeId) → q ≢ place → slice_get old q ≡ Some n → slice_get new q ≡ Some n
+
 -- an origin that stands for no record, or is held
 abbrev pub IsKnown : List Row → ℕ → Type 0
 IsKnown rows o = (o ≡ 0) ⊎ ((i : ℕ) × IsOf rows o i)
 
--- The made nodes are held, in the order of their numbers, and each node held is one of them or is the loaded one of its origin.
+-- The made nodes are held, in the order of their numbers, and each node held is one of them or is the loaded one of its
+-- origin.
 pub record IsMade (held : List Held) (made : List Made) : Type 0 where
-  pub among : (j : ℕ) (m : Made) → slice_get made j ≡ Some m → (h : Held) × (slice_get held (node_id m.node.value) ≡ Some h) × (m.node.value ≡ h.node.value)
-  pub rising : (j k : ℕ) (m n : Made) → j < k → slice_get made j ≡ Some m → slice_get made k ≡ Some n → node_id m.node.value < node_id n.node.value
-  pub others : (i : ℕ) (h : Held) → slice_get held i ≡ Some h → IsLoadedAs (map row_of held) (node_origin h.node.value) i ⊎ ((j : ℕ) × (m : Made) × (slice_get made j ≡ Some m) × (node_id m.node.value ≡ i))
+  pub among : (j : ℕ) (m : Made) → slice_get made j ≡ Some m →
+      (h : Held) × (slice_get held (node_id m.node.value) ≡ Some h) × (m.node.value ≡ h.node.value)
+  pub rising : (j k : ℕ) (m n : Made) → j < k → slice_get made j ≡ Some m → slice_get made k ≡ Some n →
+      node_id m.node.value < node_id n.node.value
+  pub others : (i : ℕ) (h : Held) → slice_get held i ≡ Some h →
+      IsLoadedAs (map row_of held) (node_origin h.node.value) i ⊎
+      ((j : ℕ) × (m : Made) × (slice_get made j ≡ Some m) × (node_id m.node.value ≡ i))
 
 -- and the number under which an origin is loaded is noted
 pub record IsStock (held : List Held) (made : List Made) (loaded : ℕ → Option NodeId) : Type 0 where
@@ -141,8 +172,15 @@ HandsIn old h new i =
 -- a node over held ones beside its depth, which is within the limit
 pub record IsOver (held : List Held) (k : Kind) (o : ℕ) (us : List UseOf) (h : Held) : Type 0 where
   pub next : IsNext held k o us h.node.value
-  pub depth : h.depth ≡ suc (greatest (stored_depth held) us)
+  pub depth : h.depth ≡ stored_depth_over held us
   pub shallow : h.depth ≤ most_depth
+
+-- and so for a held number's kind and origin, over other uses
+abbrev pub IsNextLike : List Held → ℕ → List UseOf → Node → Type 0
+IsNextLike held id us n = IsNext held (kind_at (rows_of held) id) (origin_at (rows_of held) id) us n
+
+abbrev pub IsOverLike : List Held → ℕ → List UseOf → Held → Type 0
+IsOverLike held id us h = IsOver held (kind_at (rows_of held) id) (origin_at (rows_of held) id) us h
 
 -- no node is made over uses that are too deep
 abbrev pub IsTooDeep : ℕ → PoolFault → Type 0

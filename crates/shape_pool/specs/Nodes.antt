@@ -53,7 +53,9 @@ pub record IsBareCopy (a b : Node) : Type 0 where
 
 -- whether two uses are one, their nodes told by number
 abbrev pub use_eq : NodeUse → NodeUse → Bool
-use_eq = eq_of_both (on (λ u. sign_of (out-NodeUse u).turn) nat_eq) (eq_of_both (on (λ u. (out-NodeUse u).place.0) nat_eq) (on (λ u. node_id (used_node u)) nat_eq))
+use_eq =
+    eq_of_both (on (λ u. sign_of (out-NodeUse u).turn) nat_eq)
+    (eq_of_both (on (λ u. (out-NodeUse u).place.0) nat_eq) (on (λ u. node_id (used_node u)) nat_eq))
 
 -- whether two nodes have one origin and the same uses
 abbrev pub node_eq : Node → Node → Bool
@@ -61,4 +63,5 @@ node_eq = eq_of_both (on node_origin nat_eq) (on node_uses (pointwise use_eq))
 
 -- what is hashed of a use
 abbrev pub use_input : NodeUse → fed.HashWrites
-use_input u = fed.u8 (sign_of (out-NodeUse u).turn) ++ fed.usize (out-NodeUse u).place.0 ++ fed.u32 (node_id (used_node u))
+use_input u =
+    fed.u8 (sign_of (out-NodeUse u).turn) ++ fed.usize (out-NodeUse u).place.0 ++ fed.u32 (node_id (used_node u))

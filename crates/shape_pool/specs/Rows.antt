@@ -1,4 +1,5 @@
--- What a pool holds: each node by its kind, its origin, and its uses by the numbers of their nodes. A node's number is its place.
+-- What a pool holds: each node by its kind, its origin, and its uses by the numbers of their nodes. A node's number is
+-- its place.
 use Rattle.std.specs.Prelude.{ℕ, suc, ◌<◌, max, List, [], ◌∷◌, ◌++◌, map, fold, length, All, slice_get, unwrap_or}
 use Rattle.std.specs.Option.{option_map_or}
 use Rattle.orientation.specs.declared.kind.Kind.{Kind}

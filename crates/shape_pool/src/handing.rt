@@ -3,8 +3,8 @@ ghost use Rattle.std.specs.Prelude.{◌≡◌, ◌≢◌, ◌<◌, ◌≤◌, �
 ghost use Rattle.orientation.specs.declared.kind.Kind.TheVariants.{Co};
 ghost use Rattle.shape_pool.specs.Nodes.{node_id, node_origin};
 ghost use Rattle.shape_pool.specs.Rows.{depth_over, kind_at, most_depth, most_nodes, origin_at, AllBelow, AllHeld};
-ghost use Rattle.shape_pool.specs.Calls.{IsHandedIn, IsLoaded, IsRefused};
-ghost use Rattle.shape_pool.specs.Held.{rows_of, HandsIn, HasNone, IsIndex, IsKnown};
+ghost use Rattle.shape_pool.specs.Calls.{IsHandedIn, IsHandedInLike, IsLoaded, IsRefused};
+ghost use Rattle.shape_pool.specs.Held.{rows_of, HandsIn, IsIndex, IsKnown, IsOneTooMany};
 
 use crate::fault::{MOST_NODES, PoolFault};
 use crate::held::{Held, Made};
@@ -62,7 +62,7 @@ pub(crate) fn hold_changed(
     requires held { AllHeld (rows_of stock.old) uses.now }
     requires below { AllBelow (rows_of stock.old) (kind_at (rows_of stock.old) id.0) uses.now }
     ensures index { IsIndex stock.new }
-    ensures handed { IfOk result (λ made. IsHandedIn (rows_of stock.old) (kind_at (rows_of stock.old) id.0) (origin_at (rows_of stock.old) id.0) uses.now (rows_of stock.new) made.0) }
+    ensures handed { IfOk result (λ made. IsHandedInLike (rows_of stock.old) id.0 uses.now (rows_of stock.new) made.0) }
     ensures err { OnErr result (stock.new ≡ stock.old) }
     ensures within { OnOk result (depth_over (rows_of stock.old) uses.now ≤ most_depth) }
     ensures refused { IfErr result (IsRefused (rows_of stock.old) (origin_at (rows_of stock.old) id.0) uses.now) }
@@ -80,7 +80,7 @@ fn hand_in(stock: &mut Stock, node: Held) -> Result<NodeId, PoolFault>
     requires known { IsKnown (rows_of stock.old) (node_origin node.node.value) }
     ensures ok { IfOk result (λ id. HandsIn stock.old node stock.new id.0) }
     ensures err { OnErr result (stock.new ≡ stock.old) }
-    ensures many { (n : ℕ) → result ≡ Err (PoolFault.TooMany n) → HasNone stock.old node.node.value × (length stock.old ≡ most_nodes) × (n ≡ most_nodes + 1) }
+    ensures many { (n : ℕ) → result ≡ Err (PoolFault.TooMany n) → IsOneTooMany stock.old node.node.value n }
     ensures deep { (n : ℕ) → result ≢ Err (PoolFault.TooDeep n) }
 {
     let Ok(shared) = node.node.clone() else {
@@ -108,7 +108,7 @@ fn load_in(stock: &mut Stock, node: Held) -> Result<NodeId, PoolFault>
     requires new { ¬ IsLoaded (rows_of stock.old) (node_origin node.node.value) }
     ensures ok { IfOk result (λ id. HandsIn stock.old node stock.new id.0) }
     ensures err { OnErr result (stock.new ≡ stock.old) }
-    ensures many { (n : ℕ) → result ≡ Err (PoolFault.TooMany n) → HasNone stock.old node.node.value × (length stock.old ≡ most_nodes) × (n ≡ most_nodes + 1) }
+    ensures many { (n : ℕ) → result ≡ Err (PoolFault.TooMany n) → IsOneTooMany stock.old node.node.value n }
     ensures deep { (n : ℕ) → result ≢ Err (PoolFault.TooDeep n) }
 {
     let count = stock.held().len();

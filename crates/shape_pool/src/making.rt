@@ -1,8 +1,9 @@
 //! Making nodes over held ones.
 ghost use Rattle.std.specs.Prelude.{◌≡◌, ◌<◌, ◌≤◌, ℕ, suc, max, All, length, IfOk, IfErr};
 ghost use Rattle.shape_pool.specs.Nodes.{node_id, node_kind, node_origin, node_uses};
-ghost use Rattle.shape_pool.specs.Rows.{greatest, kind_at, most_depth, most_nodes, origin_at};
-ghost use Rattle.shape_pool.specs.Held.{rows_of, stored_depth, AreUses, HaveIds, IsIndex, IsNext, IsOver, IsTooDeep};
+ghost use Rattle.shape_pool.specs.Rows.{most_depth, most_nodes};
+ghost use Rattle.shape_pool.specs.Held.{stored_depth, stored_depth_over, AreUses, HaveIds};
+ghost use Rattle.shape_pool.specs.Held.{IsIndex, IsNext, IsNextLike, IsOver, IsOverLike, IsTooDeep};
 
 use crate::fault::{MOST_DEPTH, PoolFault};
 use crate::held::Held;
@@ -16,7 +17,7 @@ use std::rc::Rc;
 pub(crate) fn depth_over(held: &HeldNodes, uses: &[UseOf]) -> u32
     requires held { All (λ u. u.id.0 < length held.now) uses.now }
     requires shallow { (i : ℕ) → i < length held.now → stored_depth held.now i ≤ most_depth }
-    ensures depth { result ≡ suc (greatest (stored_depth held.now) uses.now) }
+    ensures depth { result ≡ stored_depth_over held.now uses.now }
     ensures shallow { result ≤ suc most_depth }
 {
     let mut deepest = 0;
@@ -82,7 +83,7 @@ pub(crate) fn changed_node(
     requires held { All (λ u. u.id.0 < length held.now) uses.now }
     requires ids { HaveIds held.now }
     requires few { length held.now ≤ most_nodes }
-    ensures { IfOk result (λ n. IsNext held.now (kind_at (rows_of held.now) id.0) (origin_at (rows_of held.now) id.0) uses.now n.value) }
+    ensures { IfOk result (λ n. IsNextLike held.now id.0 uses.now n.value) }
 {
     let shared = shared_uses(held, uses)?;
     let own = with_uses(held.node(id.0 as usize), NodeId(held.len() as u32), shared)?;
@@ -107,8 +108,8 @@ fn with_uses(node: &Rc<Node>, id: NodeId, uses: Vec<NodeUse>) -> Result<Rc<Node>
 fn depth_within(held: &HeldNodes, uses: &[UseOf]) -> Result<u32, PoolFault>
     requires index { IsIndex held.now }
     requires held { All (λ u. u.id.0 < length held.now) uses.now }
-    ensures ok { IfOk result (λ depth. (depth ≡ suc (greatest (stored_depth held.now) uses.now)) × (depth ≤ most_depth)) }
-    ensures err { IfErr result (λ fault. IsTooDeep (suc (greatest (stored_depth held.now) uses.now)) fault) }
+    ensures ok { IfOk result (λ depth. (depth ≡ stored_depth_over held.now uses.now) × (depth ≤ most_depth)) }
+    ensures err { IfErr result (λ fault. IsTooDeep (stored_depth_over held.now uses.now) fault) }
 {
     let depth = depth_over(held, uses);
     if depth > MOST_DEPTH {
@@ -127,7 +128,7 @@ pub(crate) fn held_over(
     requires index { IsIndex held.now }
     requires held { All (λ u. u.id.0 < length held.now) uses.now }
     ensures ok { IfOk result (λ h. IsOver held.now kind origin uses.now h) }
-    ensures err { IfErr result (λ fault. IsTooDeep (suc (greatest (stored_depth held.now) uses.now)) fault) }
+    ensures err { IfErr result (λ fault. IsTooDeep (stored_depth_over held.now uses.now) fault) }
 {
     let depth = depth_within(held, uses)?;
     match new_node(held, kind, origin, uses) {
@@ -141,8 +142,8 @@ pub(crate) fn held_changed(held: &HeldNodes, id: NodeId, uses: &[UseOf]) -> Resu
     requires index { IsIndex held.now }
     requires id { id.0 < length held.now }
     requires held { All (λ u. u.id.0 < length held.now) uses.now }
-    ensures ok { IfOk result (λ h. IsOver held.now (kind_at (rows_of held.now) id.0) (origin_at (rows_of held.now) id.0) uses.now h) }
-    ensures err { IfErr result (λ fault. IsTooDeep (suc (greatest (stored_depth held.now) uses.now)) fault) }
+    ensures ok { IfOk result (λ h. IsOverLike held.now id.0 uses.now h) }
+    ensures err { IfErr result (λ fault. IsTooDeep (stored_depth_over held.now uses.now) fault) }
 {
     let depth = depth_within(held, uses)?;
     match changed_node(held, id, uses) {

@@ -10,7 +10,8 @@ use std::rc::Rc;
 #[derive(Clone, Copy, Debug, PartialEq, Eq, PartialOrd, Ord, Hash)]
 pub struct NodeId(pub u32);
 
-/// A node: its number, kind and origin, and its uses in order. Equal nodes of a pool are one node, shared by all that use it.
+/// A node: its number, kind and origin, and its uses in order. Equal nodes of a pool are one node, shared by all that
+/// use it.
 #[derive(Drop)]
 #[cycle(node)]
 pub struct Node {

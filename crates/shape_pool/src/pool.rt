@@ -1,11 +1,16 @@
 //! The pool: nodes by number, found by origin and uses.
-ghost use Rattle.std.specs.Prelude.{◌≡◌, ◌<◌, ◌≤◌, ◌+◌, ℕ, List, [], ◌∷◌, ◌++◌, All, map, take, length, IsTrue, ◌↔◌, IfErr, IfNone, IfOk, IfSome, OnErr, OnOk};
+ghost use Rattle.std.specs.Prelude.{◌≡◌, ◌<◌, ◌≤◌, ◌+◌, ℕ, List, [], ◌∷◌, ◌++◌, All, map, take};
+ghost use Rattle.std.specs.Prelude.{length, IfErr, IfNone, IfOk, IfSome, OnErr, OnOk};
 ghost use Rattle.location_words.specs.declared.pair.Pair.{Pair};
 ghost use Rattle.orientation.specs.declared.kind.Kind.TheVariants.{Co};
 ghost use Rattle.expansion_laws.specs.Measures.{depth as depth_of};
-ghost use Rattle.shape_pool.specs.Nodes.{by_number, node_id, node_kind, node_origin, node_uses, tree_of_node, used_node};
-ghost use Rattle.shape_pool.specs.Rows.{a_row, depth_at, depth_over, kind_at, most_depth, origin_at, tree_at, uses_at, AllBelow, AllHeld, HasPlaces};
-ghost use Rattle.shape_pool.specs.Calls.{IsHandedIn, IsHeldAs, IsLoaded, IsLoadedAs, IsLoadedToo, IsNode, IsOf, IsRefused, IsTreeOver, Keeps, KeepsLoaded, KeepsLoadedBelow, KeepsPlaces};
+ghost use Rattle.shape_pool.specs.Nodes.{by_number, node_id, node_kind, node_origin};
+ghost use Rattle.shape_pool.specs.Nodes.{node_uses, tree_of_node, used_node};
+ghost use Rattle.shape_pool.specs.Rows.{a_row, depth_at, depth_over, kind_at, most_depth};
+ghost use Rattle.shape_pool.specs.Rows.{origin_at, tree_at, uses_at, AllBelow, AllHeld, HasPlaces};
+ghost use Rattle.shape_pool.specs.Calls.{IsHandedIn, IsHandedInLike, IsHeldAs, IsLoaded, IsLoadedAs, IsLoadedToo};
+ghost use Rattle.shape_pool.specs.Calls.{IsNode, IsNodeLike, IsRefused, IsTreeOver, StandsForNumber};
+ghost use Rattle.shape_pool.specs.Calls.{Keeps, KeepsLoaded, KeepsLoadedBelow, KeepsPlaces};
 ghost use Rattle.shape_pool.specs.Laws.{IsSound};
 
 use crate::fault::PoolFault;
@@ -64,7 +69,7 @@ impl Pool {
         ensures origin { node_origin result.now.value ≡ origin_at self.now id.0 }
         ensures uses { map by_number (node_uses result.now.value) ≡ uses_at self.now id.0 }
         ensures tree { (word : ℕ → List Pair) → tree_of_node word result.now.value ≡ tree_at word self.now id.0 }
-        ensures shared { All (λ u. (word : ℕ → List Pair) → tree_of_node word (used_node u) ≡ tree_at word self.now (node_id (used_node u))) (node_uses result.now.value) }
+        ensures shared { All (λ u. StandsForNumber self.now (used_node u)) (node_uses result.now.value) }
     {
         self.stock.held().node(id.0 as usize)
     }
@@ -127,8 +132,8 @@ impl Pool {
 
     /// The number of the tree of a held number's origin over other uses, which have kinds below its own.
     ///
-    /// It takes one step, whatever it answers. The shared node is made its own by copy on write, its uses are exchanged, and it is
-    /// handed in.
+    /// It takes one step, whatever it answers. The shared node is made its own by copy on write, its uses are
+    /// exchanged, and it is handed in.
     pub fn rebuild<L: Ledger>(
         &mut self,
         id: NodeId,
@@ -139,9 +144,9 @@ impl Pool {
         requires held { AllHeld self.old uses.now }
         requires below { AllBelow self.old (kind_at self.old id.0) uses.now }
         ensures steps { steps.new ≡ steps.old + 1 }
-        ensures handed { IfOk result (λ made. IsHandedIn self.old (kind_at self.old id.0) (origin_at self.old id.0) uses.now self.new made.0) }
+        ensures handed { IfOk result (λ made. IsHandedInLike self.old id.0 uses.now self.new made.0) }
         ensures held { IfOk result (λ made. made.0 < length self.new) }
-        ensures node { IfOk result (λ made. IsNode self.new (kind_at self.old id.0) (origin_at self.old id.0) uses.now made.0) }
+        ensures node { IfOk result (λ made. IsNodeLike self.old id.0 uses.now self.new made.0) }
         ensures tree { IfOk result (λ made. IsTreeOver self.old (origin_at self.old id.0) uses.now self.new made.0) }
         ensures loaded { KeepsLoaded self.old self.new }
         ensures places { KeepsPlaces self.old uses.now self.new }
@@ -200,9 +205,9 @@ impl Pool {
         self.stock.truncate(mark);
     }
 
-    /// What holds of every pool, by which a caller reads its trees: numbers are equal exactly where their trees are, a number's
-    /// tree is its origin over the trees of its uses, kinds and depths are those of trees, and the numbers below a root are its
-    /// subtrees.
+    /// What holds of every pool, by which a caller reads its trees: numbers are equal exactly where their trees are, a
+    /// number's tree is its origin over the trees of its uses, kinds and depths are those of trees, and the numbers
+    /// below a root are its subtrees.
     pub fn laws(&self)
         ensures { IsSound self.now }
     {

@@ -1,11 +1,11 @@
 //! The nodes of a pool, and how they are found: a loaded one by its origin, the others by an index of origins and uses.
-ghost use Rattle.std.specs.Prelude.{◌≡◌, ◌≢◌, ℕ, ◌<◌, ◌≤◌, ◌+◌, ◌++◌, ◌∷◌, [], Some, false, length, take, slice_get, IsTrue, ◌↔◌, IfNone, IfSome, OnErr, OnOk};
-ghost use Rattle.shape_pool.specs.declared.held.Held.{Held as AHeld};
+ghost use Rattle.std.specs.Prelude.{◌≡◌, ℕ, ◌<◌, ◌≤◌, ◌+◌, ◌++◌, ◌∷◌, [], Some, false, length};
+ghost use Rattle.std.specs.Prelude.{take, slice_get, IsTrue, ◌↔◌, IfNone, IfSome, OnErr, OnOk};
 ghost use Rattle.shape_pool.specs.declared.held.Made.{Made as AMade};
-ghost use Rattle.shape_pool.specs.Nodes.{node_eq, node_id, node_origin};
+ghost use Rattle.shape_pool.specs.Nodes.{node_id, node_origin};
 ghost use Rattle.shape_pool.specs.Rows.{most_depth, most_nodes};
 ghost use Rattle.shape_pool.specs.Calls.{IsLoaded, IsLoadedAs, IsOf};
-ghost use Rattle.shape_pool.specs.Held.{rows_of, HasAlike, HasNone, IsKnown};
+ghost use Rattle.shape_pool.specs.Held.{rows_of, HasAlike, HasNone, HasNoneLoaded, IsKnown, KeepsOthers};
 
 use crate::held::{Held, Made, alike};
 use crate::held_nodes::HeldNodes;
@@ -14,8 +14,8 @@ use indexmap::IndexSet;
 use std::alloc::{AllocError, Global};
 use std::marker::Model;
 
-/// Nodes by number, an index of those that were made, and a number for each origin up to the greatest that was loaded. Such a
-/// number counts only where its node is held and has the origin, so that going back leaves these as they are.
+/// Nodes by number, an index of those that were made, and a number for each origin up to the greatest that was loaded.
+/// Such a number counts only where its node is held and has the origin, so that going back leaves these as they are.
 #[derive(Drop)]
 pub(crate) struct Stock {
     held: HeldNodes,
@@ -100,7 +100,7 @@ impl Stock {
     /// The loaded node of the same origin, where it has the same uses.
     fn loaded_alike(&self, node: &Made) -> Option<NodeId>
         ensures some { IfSome result (λ id. HasAlike self.now node.now.node.value id.0) }
-        ensures none { IfNone result ((i : ℕ) (h : AHeld) → slice_get self.now i ≡ Some h → IsLoadedAs (rows_of self.now) (node_origin h.node.value) i → node_eq node.now.node.value h.node.value ≡ false) }
+        ensures none { IfNone result (HasNoneLoaded self.now node.now.node.value) }
     {
         let id = self.named(node.node.origin)?;
         if alike(&node.node, self.held.node(id.0 as usize)) {
@@ -166,7 +166,7 @@ fn below(made: &[Made], mark: u32) -> usize
 /// Notes the number under which an origin is loaded. Entries that are made for origins between stand for nothing.
 fn note(loaded: &mut Vec<NodeId>, origin: u32, id: NodeId) -> Result<(), AllocError>
     ensures noted { OnOk result (slice_get loaded.new.items origin ≡ Some id) }
-    ensures others { OnOk result ((q : ℕ) (n : NodeId) → q ≢ origin → slice_get loaded.old.items q ≡ Some n → slice_get loaded.new.items q ≡ Some n) }
+    ensures others { OnOk result (KeepsOthers origin loaded.old.items loaded.new.items) }
     ensures err { OnErr result (loaded.new.items ≡ loaded.old.items) }
 {
     let place = origin as usize;

@@ -5,4 +5,9 @@ use Rattle.shape_pool.specs.Held.{HasAlike}
 use Rattle.shape_pool.proofs.handing.hand_in.Goals as goal
 
 pub returns-in-Some-clause-ok : goal.returns-in-Some-clause-ok
-returns-in-Some-clause-ok c = inl (refl, subst (λ (n : Node). HasAlike c.args.stock.now n c.in-Some.id.0) c.in-Ok.ensures.cases c.in-Some.ensures.some)
+returns-in-Some-clause-ok c =
+    inl (
+      refl,
+      subst (λ (n : Node). HasAlike c.args.stock.now n c.in-Some.id.0) c.in-Ok.ensures.cases
+          c.in-Some.ensures.some,
+    )

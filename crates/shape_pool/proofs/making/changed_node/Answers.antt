@@ -6,5 +6,8 @@ use Rattle.shape_pool.proofs.MakingLaws.{changed-next}
 use Rattle.shape_pool.proofs.making.changed_node.Goals as goal
 
 pub returns : goal.returns
-returns c = changed-next c.args.held.now c.args.id.0 c.node.result.now c.args.uses.now c.in_ok-own.own.value c.node.ensures (c.in_ok-own.ensures.id ∙ c.len.ensures) c.in_ok-own.ensures.kind c.in_ok-own.ensures.origin
-    (subst (λ (us : List NodeUse). AreUses c.args.held.now c.args.uses.now us) (sym c.in_ok-own.ensures.uses) c.in_ok-shared.ensures)
+returns c =
+    changed-next c.args.held.now c.args.id.0 c.node.result.now c.args.uses.now c.in_ok-own.own.value c.node.ensures
+    (c.in_ok-own.ensures.id ∙ c.len.ensures) c.in_ok-own.ensures.kind c.in_ok-own.ensures.origin
+    (subst (λ (us : List NodeUse). AreUses c.args.held.now c.args.uses.now us) (sym c.in_ok-own.ensures.uses)
+    c.in_ok-shared.ensures)

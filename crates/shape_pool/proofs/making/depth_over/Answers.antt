@@ -14,8 +14,10 @@ loop-u-preserved c =
     let held : List Held = c.args.held.now in
     let lt : c.loop-u.u-index < length uses = omega arith in
     let u : UseOf = slice_index_or uses c.loop-u.u-index any_use in
-    let depth : stored_depth held u.id.0 ≤ most_depth = c.requires.shallow u.id.0 (c.requires.held c.loop-u.u-index any_use lt) in
+    let depth : stored_depth held u.id.0 ≤ most_depth =
+    c.requires.shallow u.id.0 (c.requires.held c.loop-u.u-index any_use lt) in
     let read = c.depth.ensures in (
-      greatest-more (stored_depth held) uses c.loop-u.u-index any_use c.loop-u.deepest c.max_of-deepest.result lt c.loop-u.invariant.0 (c.max_of-deepest.ensures ∙ ap (max c.loop-u.deepest) read),
+      greatest-more (stored_depth held) uses c.loop-u.u-index any_use c.loop-u.deepest c.max_of-deepest.result lt
+          c.loop-u.invariant.0 (c.max_of-deepest.ensures ∙ ap (max c.loop-u.deepest) read),
       omega (arith, depth, read, c.loop-u.invariant.1, c.max_of-deepest.ensures),
     )

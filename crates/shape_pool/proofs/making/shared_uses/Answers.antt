@@ -11,5 +11,7 @@ loop-u-preserved c =
     let held : List Held = c.args.held.now in
     let lt : c.loop-u.u-index < length uses = omega arith in
     let u : UseOf = slice_index_or uses c.loop-u.u-index any_use in
-    let made = use-made held c.requires.ids u c.node.result.now c.in_ok-node.node c.node.ensures c.in_ok-node.ensures.cases in
-    uses-more held uses c.loop-u.shared.items c.push.new.self.items _ c.loop-u.u-index any_use lt c.in_ok-push.ensures.items made.0 made.1 c.loop-u.invariant
+    let made = use-made held c.requires.ids u c.node.result.now c.in_ok-node.node c.node.ensures
+    c.in_ok-node.ensures.cases in
+    uses-more held uses c.loop-u.shared.items c.push.new.self.items _ c.loop-u.u-index any_use lt
+    c.in_ok-push.ensures.items made.0 made.1 c.loop-u.invariant

@@ -5,7 +5,8 @@ use Rattle.shape_pool.specs.Nodes.{node_id}
 use Rattle.shape_pool.proofs.stock.below.Given as goal
 
 abbrev pub invariant-loop-left : goal.invariant-loop-left
-invariant-loop-left l = (l.left ≤ length l.made) × ((j : ℕ) (m : Made) → l.left ≤ j → slice_get l.made j ≡ Some m → l.mark ≤ node_id m.node.value)
+invariant-loop-left l = (l.left ≤ length l.made) ×
+    ((j : ℕ) (m : Made) → l.left ≤ j → slice_get l.made j ≡ Some m → l.mark ≤ node_id m.node.value)
 
 abbrev pub decreases-loop-left : goal.decreases-loop-left
 decreases-loop-left l = l.left

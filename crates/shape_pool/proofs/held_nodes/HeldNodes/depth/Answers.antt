@@ -16,5 +16,6 @@ returns c =
     let l = length-held_of c.self.inside.nodes.items c.self.inside.depths.items c.self.invariant in
     let n = ap length c.self.view_is in
     let lt : c.args.at < length c.self.inside.nodes.items = omega (arith, c.requires, l, n) in
-    c.index.ensures ∙ depth-held_of c.self.inside.nodes.items c.self.inside.depths.items c.self.invariant c.args.at c.index.result.now lt ∙
+    c.index.ensures ∙ depth-held_of c.self.inside.nodes.items c.self.inside.depths.items c.self.invariant c.args.at
+    c.index.result.now lt ∙
     ap (λ (hs : List Held). stored_depth hs c.args.at) c.self.view_is

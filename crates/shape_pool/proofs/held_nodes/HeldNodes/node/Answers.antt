@@ -17,6 +17,8 @@ returns c =
     let l = length-held_of c.self.inside.nodes.items c.self.inside.depths.items c.self.invariant in
     let n = ap length c.self.view_is in
     let lt : c.args.at < length c.self.inside.nodes.items = omega (arith, c.requires, l, n) in
-    let at = slice_get-get_or c.self.inside.nodes.items c.args.at c.index.result.now lt ∙ ap Some (sym c.index.ensures) in
-    subst (λ (hs : List Held). option_map (λ (h : Held). h.node) (slice_get hs c.args.at) ≡ Some c.index.result.now) c.self.view_is
+    let at = slice_get-get_or c.self.inside.nodes.items c.args.at c.index.result.now lt ∙
+    ap Some (sym c.index.ensures) in
+    subst (λ (hs : List Held). option_map (λ (h : Held). h.node) (slice_get hs c.args.at) ≡ Some c.index.result.now)
+    c.self.view_is
     (node-held_of c.self.inside.nodes.items c.self.inside.depths.items c.self.invariant c.args.at c.index.result.now at)

@@ -11,11 +11,14 @@ use Rattle.shape_pool.proofs.pool.Pool.depth.Goals as goal
 pub returns-clause-depth : goal.returns-clause-depth
 returns-clause-depth c =
     let held : List Held = c.self.inside.stock in
-    let within : c.args.id.0 < length held = subst (λ n. c.args.id.0 < n) (few-held held c.args.self.now c.self.view_is) c.requires in
-    c.depth.ensures ∙ ap (λ (hs : List Held). stored_depth hs c.args.id.0) c.held.ensures ∙ c.self.invariant.depths c.args.id.0 within ∙
+    let within : c.args.id.0 < length held = subst (λ n. c.args.id.0 < n) (few-held held c.args.self.now c.self.view_is)
+    c.requires in
+    c.depth.ensures ∙ ap (λ (hs : List Held). stored_depth hs c.args.id.0) c.held.ensures ∙
+    c.self.invariant.depths c.args.id.0 within ∙
     ap (λ (rs : List Row). depth_at rs c.args.id.0) c.self.view_is
 
 pub returns-clause-tree : goal.returns-clause-tree
 returns-clause-tree c = λ word.
-    subst (λ (rows : List Row). depth_of (tree_at word rows c.args.id.0) ≡ depth_at rows c.args.id.0) c.self.view_is (same-depths _ c.self.invariant.rows.before word c.args.id.0) ∙
+    subst (λ (rows : List Row). depth_of (tree_at word rows c.args.id.0) ≡ depth_at rows c.args.id.0) c.self.view_is
+    (same-depths _ c.self.invariant.rows.before word c.args.id.0) ∙
     sym (returns-clause-depth c)
