@@ -1,5 +1,7 @@
 -- The line of a command is read as that command, and no line of the command is shorter.
-use Rattle.std.proofs.Common.{◌≡◌, ◌≢◌, ℕ, ◌+◌, ◌<◌, ◌≤◌, inl, inr, Bool, true, false, ◌==◌, ◌&&◌, nat_le, List, [], ◌∷◌, ◌++◌, length, map, codes, if◌then◌else◌, Option, Some, None, Result, Ok, refl, sym, ap, subst, ◌∙◌, arith}
+use Rattle.std.proofs.Common.{◌≡◌, ◌≢◌, ℕ, ◌+◌, ◌<◌, ◌≤◌, inl, inr, Bool, true, false, ◌==◌, ◌&&◌, nat_le, List, []}
+use Rattle.std.proofs.Common.{◌∷◌, ◌++◌, length, map, codes, if◌then◌else◌, Option, Some, None, Result, Ok, refl, sym}
+use Rattle.std.proofs.Common.{ap, subst, ◌∙◌, arith}
 use Rattle.std.specs.Prelude.{◌⊎◌, unwrap_or}
 use Rattle.std.specs.List.{AllByRecursion, AllPairs, join_with_byte}
 use Rattle.std.proofs.lemmas.Bool.{le-leb, leb-true}
@@ -10,11 +12,15 @@ use Rattle.orientation.specs.declared.turn.Turn.{Turn}
 use Rattle.orientation.specs.declared.turn.Turn.TheVariants.{Forward, Reversed, Internal, External}
 use Rattle.script_text.specs.Answers.{Answers, IsCommandOf}
 use Rattle.script_text.specs.Laws.{CommandsAreWritten, CommandsHaveLines, IsLineOf, LinesSpellOneCommand}
-use Rattle.script_text.specs.Meaning.{command_of_line, fault_of, first_fault, location_fault, meaning_of, mentions_fault, number_of_mention, selection_fault, shape_fault, signed_name, unless_faulty}
+use Rattle.script_text.specs.Meaning.{command_of_line, fault_of, first_fault, location_fault, meaning_of}
+use Rattle.script_text.specs.Meaning.{mentions_fault, number_of_mention, selection_fault, shape_fault, signed_name}
+use Rattle.script_text.specs.Meaning.{unless_faulty}
 use Rattle.script_text.specs.Reading.{phrase_of}
-use Rattle.script_text.specs.Spelling.{AreSewn, IsBare, IsLegal, IsShort, IsShortMention, IsSided, MayBeShort, Spells, spell_mention, spell_number, spelling}
+use Rattle.script_text.specs.Spelling.{AreSewn, IsBare, IsLegal, IsShort, IsShortMention, IsSided, MayBeShort, Spells}
+use Rattle.script_text.specs.Spelling.{spell_mention, spell_number, spelling}
 use Rattle.script_text.specs.Words.{words_of}
-use Rattle.script_text.specs.Writing.{AreSides, HasLine, IsShape, IsSide, MayBePlace, bare_mention, line_of_command, location_for, mention_for, name_of, phrase_for, sewn_mention, sign_for}
+use Rattle.script_text.specs.Writing.{AreSides, HasLine, IsShape, IsSide, MayBePlace, bare_mention, line_of_command}
+use Rattle.script_text.specs.Writing.{location_for, mention_for, name_of, phrase_for, sewn_mention, sign_for}
 use Rattle.script_text.specs.declared.command.Command.{Command}
 use Rattle.script_text.specs.declared.command.Command.TheVariants as commands
 use Rattle.script_text.specs.declared.command.LineFault.{LineFault}
@@ -64,8 +70,15 @@ sewn_back (s ∷ ss) =
 
 pub meaning_back : (c : Command) → meaning_of (phrase_for c) ≡ c
 meaning_back (commands.Replace sel tgt) =
-    ap (λ (t : Turn). commands.Replace sel (record { name = tgt.name; turn = t; location = unwrap_or (location_for sel.place tgt.location) (unwrap_or sel.place 0) })) (turn_back tgt.turn)
-    ∙ ap (λ (l : ℕ). commands.Replace sel (record { name = tgt.name; turn = tgt.turn; location = l })) (location_back sel.place tgt.location)
+    ap (λ (t : Turn). commands.Replace sel
+    (record {
+      name = tgt.name;
+      turn = t;
+      location =
+          unwrap_or (location_for sel.place tgt.location) (unwrap_or sel.place 0);
+    })) (turn_back tgt.turn)
+    ∙ ap (λ (l : ℕ). commands.Replace sel (record { name = tgt.name; turn = tgt.turn; location = l }))
+    (location_back sel.place tgt.location)
 meaning_back (commands.Remove sel) = refl
 meaning_back (commands.Merge names) = ap commands.Merge (names_back names)
 meaning_back (commands.Sew names) = ap commands.Sew (sewn_back names)
@@ -86,21 +99,27 @@ module _ (shapes locations : ℕ) where
   written_if true l is = tt
   written_if false l is = is
 
-  selection_free : (m : Mention) (o : Option ℕ) → IsShape shapes m.number → MayBePlace locations o → selection_fault shapes locations m o ≡ None
+  selection_free : (m : Mention) (o : Option ℕ) → IsShape shapes m.number → MayBePlace locations o
+      → selection_fault shapes locations m o ≡ None
   selection_free m o is may = rw (shape_free m.number is, place_free o may) refl
 
   bare_free : (ns : List ℕ) → AllByRecursion (IsShape shapes) ns → mentions_fault shapes (map bare_mention ns) ≡ None
   bare_free [] are = refl
   bare_free (n ∷ ns) are = rw (shape_free n are.0) (bare_free ns are.1)
 
-  sewn_free : (ss : List SignedName) → AllByRecursion (IsShape shapes) (map name_of ss) → mentions_fault shapes (map sewn_mention ss) ≡ None
+  sewn_free : (ss : List SignedName) → AllByRecursion (IsShape shapes) (map name_of ss)
+      → mentions_fault shapes (map sewn_mention ss) ≡ None
   sewn_free [] are = refl
   sewn_free (s ∷ ss) are = rw (shape_free s.name are.0) (sewn_free ss are.1)
 
   pub fault_free : (c : Command) → HasLine shapes locations c → fault_of shapes locations (phrase_for c) ≡ None
   fault_free (commands.Replace sel tgt) has =
-      ap (λ (o : Option LineFault). first_fault o (selection_fault shapes locations (mention_for tgt.name (sign_for tgt.turn)) (location_for sel.place tgt.location))) (selection_free (mention_for sel.name sel.turn) sel.place has.0.0 has.0.1)
-      ∙ selection_free (mention_for tgt.name (sign_for tgt.turn)) (location_for sel.place tgt.location) has.1.0 (written_if (tgt.location == unwrap_or sel.place 0) tgt.location has.1.1)
+      ap (λ (o : Option LineFault). first_fault o
+      (selection_fault shapes locations (mention_for tgt.name (sign_for tgt.turn))
+      (location_for sel.place tgt.location)))
+      (selection_free (mention_for sel.name sel.turn) sel.place has.0.0 has.0.1)
+      ∙ selection_free (mention_for tgt.name (sign_for tgt.turn)) (location_for sel.place tgt.location) has.1.0
+      (written_if (tgt.location == unwrap_or sel.place 0) tgt.location has.1.1)
   fault_free (commands.Remove sel) has = selection_free (mention_for sel.name sel.turn) sel.place has.0 has.1
   fault_free (commands.Merge names) has = bare_free names has.are_shapes
   fault_free (commands.Sew names) has = sewn_free names has.0.are_shapes
@@ -115,11 +134,13 @@ module _ (shapes locations : ℕ) where
     place_short None is = tt
     place_short (Some n) is = omega (arith, is, few_locations)
 
-    bare_short : (ns : List ℕ) → AllByRecursion (IsShape shapes) ns → AllByRecursion IsShortMention (map bare_mention ns)
+    bare_short : (ns : List ℕ) → AllByRecursion (IsShape shapes) ns
+        → AllByRecursion IsShortMention (map bare_mention ns)
     bare_short [] are = tt
     bare_short (n ∷ ns) are = (shape_short n are.0, bare_short ns are.1)
 
-    sewn_short : (ss : List SignedName) → AllByRecursion (IsShape shapes) (map name_of ss) → AllByRecursion IsShortMention (map sewn_mention ss)
+    sewn_short : (ss : List SignedName) → AllByRecursion (IsShape shapes) (map name_of ss)
+        → AllByRecursion IsShortMention (map sewn_mention ss)
     sewn_short [] are = tt
     sewn_short (s ∷ ss) are = (shape_short s.name are.0, sewn_short ss are.1)
 
@@ -127,7 +148,8 @@ module _ (shapes locations : ℕ) where
     are_bare [] = tt
     are_bare (n ∷ ns) = (refl, are_bare ns)
 
-    side_sided : (t : Turn) → (t ≡ Forward) ⊎ (t ≡ Reversed) → (sign_for t ≡ None) ⊎ ((sign_for t ≡ Some Forward) ⊎ (sign_for t ≡ Some Reversed))
+    side_sided : (t : Turn) → (t ≡ Forward) ⊎ (t ≡ Reversed)
+        → (sign_for t ≡ None) ⊎ ((sign_for t ≡ Some Forward) ⊎ (sign_for t ≡ Some Reversed))
     side_sided t (inl e) = inl (ap sign_for e)
     side_sided t (inr e) = inr (inr (ap sign_for e))
 
@@ -154,8 +176,17 @@ module _ (shapes locations : ℕ) where
     sewn_long ss = simp length-map
 
     pub legal : (c : Command) → HasLine shapes locations c → IsLegal (phrase_for c)
-    legal (commands.Replace sel tgt) has =
-        (shape_short sel.name has.0.0, (place_short sel.place has.0.1, (shape_short tgt.name has.1.0, place_short (location_for sel.place tgt.location) (written_if (tgt.location == unwrap_or sel.place 0) tgt.location has.1.1))))
+    legal (commands.Replace sel tgt) has = (
+      shape_short sel.name has.0.0,
+      (
+        place_short sel.place has.0.1,
+        (
+          shape_short tgt.name has.1.0,
+          place_short (location_for sel.place tgt.location)
+              (written_if (tgt.location == unwrap_or sel.place 0) tgt.location has.1.1),
+        ),
+      ),
+    )
     legal (commands.Remove sel) has = (shape_short sel.name has.0, place_short sel.place has.1)
     legal (commands.Merge names) has = (
       record {
@@ -177,9 +208,11 @@ module _ (shapes locations : ℕ) where
     legal commands.Undo has = tt
 
     module _ (lines : LinesSpellOneCommand) (plain : WrittenIsRead) where
-      read_back : (p : Phrase) → IsLegal p → fault_of shapes locations p ≡ None → command_of_line shapes locations (join_with_byte 32 (spelling p)) ≡ Ok (Some (meaning_of p))
+      read_back : (p : Phrase) → IsLegal p → fault_of shapes locations p ≡ None
+          → command_of_line shapes locations (join_with_byte 32 (spelling p)) ≡ Ok (Some (meaning_of p))
       read_back p is_legal free =
-          let read : phrase_of (spelling p) ≡ Some p = (lines.read (spelling p) p).1 (record { spelled = refl; legal = is_legal }) in
+          let read : phrase_of (spelling p) ≡ Some p =
+          (lines.read (spelling p) p).1 (record { spelled = refl; legal = is_legal }) in
           rw (spelling_back plain p, spelling_says p, read, free) refl
 
       pub line_back : (c : Command) → HasLine shapes locations c → IsLineOf shapes locations (line_of_command c) c
@@ -224,18 +257,21 @@ module _ (shapes locations : ℕ) where
       let both = first_none (shape_fault shapes m.number) (location_fault locations o) e in
       record { shape = shape_there m.number both.0; place = place_there o both.1 }
 
-  location_there : (l place : Option ℕ) → MayBePlace locations l → MayBePlace locations place → unwrap_or l (unwrap_or place 0) ≤ locations
+  location_there : (l place : Option ℕ) → MayBePlace locations l → MayBePlace locations place
+      → unwrap_or l (unwrap_or place 0) ≤ locations
   location_there (Some n) place is may = is
   location_there None (Some n) is may = may
   location_there None None is may = omega arith
 
-  bare_there : (ms : List Mention) → mentions_fault shapes ms ≡ None → AllByRecursion (IsShape shapes) (map number_of_mention ms)
+  bare_there : (ms : List Mention) → mentions_fault shapes ms ≡ None
+      → AllByRecursion (IsShape shapes) (map number_of_mention ms)
   bare_there [] e = tt
   bare_there (m ∷ ms) e =
       let both = first_none (shape_fault shapes m.number) (mentions_fault shapes ms) e in
       (shape_there m.number both.0, bare_there ms both.1)
 
-  sewn_there : (ms : List Mention) → mentions_fault shapes ms ≡ None → AllByRecursion (IsShape shapes) (map name_of (map signed_name ms))
+  sewn_there : (ms : List Mention) → mentions_fault shapes ms ≡ None
+      → AllByRecursion (IsShape shapes) (map name_of (map signed_name ms))
   sewn_there [] e = tt
   sewn_there (m ∷ ms) e =
       let both = first_none (shape_fault shapes m.number) (mentions_fault shapes ms) e in
@@ -245,7 +281,8 @@ module _ (shapes locations : ℕ) where
   names_of_sewn [] = refl
   names_of_sewn (m ∷ ms) = ap (λ (z : List ℕ). m.number ∷ z) (names_of_sewn ms)
 
-  sided_side : (s : Option Turn) → (s ≡ None) ⊎ ((s ≡ Some Forward) ⊎ (s ≡ Some Reversed)) → (unwrap_or s Forward ≡ Forward) ⊎ (unwrap_or s Forward ≡ Reversed)
+  sided_side : (s : Option Turn) → (s ≡ None) ⊎ ((s ≡ Some Forward) ⊎ (s ≡ Some Reversed))
+      → (unwrap_or s Forward ≡ Forward) ⊎ (unwrap_or s Forward ≡ Reversed)
   sided_side s (inl e) = inl (rw e refl)
   sided_side s (inr (inl e)) = inl (rw e refl)
   sided_side s (inr (inr e)) = inr (rw e refl)
@@ -272,7 +309,12 @@ module _ (shapes locations : ℕ) where
       ((source.shape, source.place), (target.shape, location_there l place target.place source.place))
   meant_there (Remove s place) is e = (let source = selection_there s place e in (source.shape, source.place))
   meant_there (Merge ms) is e =
-      record { are_shapes = bare_there ms e; some = subst (λ (n : ℕ). 2 ≤ n) (sym (bare_count ms)) is.0.some; distinct = is.0.distinct }
+      record {
+        are_shapes = bare_there ms e;
+        some = subst (λ (n : ℕ). 2 ≤ n) (sym (bare_count ms)) is.0.some;
+        distinct =
+            is.0.distinct;
+      }
   meant_there (Sew ms) is e = (
     record {
       are_shapes = sewn_there ms e;
@@ -285,7 +327,8 @@ module _ (shapes locations : ℕ) where
   meant_there Undo is e = tt
 
   module _ (lines : LinesSpellOneCommand) where
-    command_there : (line : List ℕ) (c : Command) → IsLineOf shapes locations line c → IsCommandOf shapes locations (words_of line) c
+    command_there : (line : List ℕ) (c : Command) → IsLineOf shapes locations line c
+        → IsCommandOf shapes locations (words_of line) c
     command_there line c e = subst (Answers shapes locations (words_of line)) e (answers lines shapes locations line)
 
     pub only_there : (line : List ℕ) (c : Command) → IsLineOf shapes locations line c → HasLine shapes locations c
@@ -295,14 +338,16 @@ module _ (shapes locations : ℕ) where
 
 -- ---- no line of a command is shorter than the one that is written
 
-sign_shorter : (s : Option Turn) (n : ℕ) → length (spell_mention (mention_for n (sign_for (unwrap_or s Forward)))) ≤ length (spell_mention (mention_for n s))
+sign_shorter : (s : Option Turn) (n : ℕ) → length (spell_mention (mention_for n (sign_for (unwrap_or s Forward))))
+    ≤ length (spell_mention (mention_for n s))
 sign_shorter None n = omega arith
 sign_shorter (Some Forward) n = omega arith
 sign_shorter (Some Reversed) n = omega arith
 sign_shorter (Some Internal) n = omega arith
 sign_shorter (Some External) n = omega arith
 
-number_shorter : (word : List ℕ) (b : Bool) (n : ℕ) → size_of (spell_number word (if b then None else Some n)) ≤ size_of (spell_number word (Some n))
+number_shorter : (word : List ℕ) (b : Bool) (n : ℕ) → size_of (spell_number word (if b then None else Some n))
+    ≤ size_of (spell_number word (Some n))
 number_shorter word true n = omega arith
 number_shorter word false n = omega arith
 
@@ -313,7 +358,9 @@ nothing_to_say n =
       | inr other ↦ absurd (other.1 refl)
     ]
 
-location_shorter : (l place : Option ℕ) → size_of (spell_number (codes "loc") (location_for place (unwrap_or l (unwrap_or place 0)))) ≤ size_of (spell_number (codes "loc") l)
+location_shorter : (l place : Option ℕ)
+    → size_of (spell_number (codes "loc") (location_for place (unwrap_or l (unwrap_or place 0))))
+    ≤ size_of (spell_number (codes "loc") l)
 location_shorter None place = rw (nothing_to_say (unwrap_or place 0)) (omega arith)
 location_shorter (Some n) place = number_shorter (codes "loc") (n == unwrap_or place 0) n
 
@@ -321,14 +368,17 @@ size-append : (xs ys : List (List ℕ)) → size_of (xs ++ ys) ≡ size_of xs + 
 size-append [] ys = omega arith
 size-append (x ∷ xs) ys = (let rest = size-append xs ys in omega (arith, rest))
 
-bare_shorter : (ms : List Mention) → AllByRecursion IsBare ms → size_of (map spell_mention (map bare_mention (map number_of_mention ms))) ≤ size_of (map spell_mention ms)
+bare_shorter : (ms : List Mention) → AllByRecursion IsBare ms
+    → size_of (map spell_mention (map bare_mention (map number_of_mention ms))) ≤ size_of (map spell_mention ms)
 bare_shorter [] are = omega arith
 bare_shorter (m ∷ ms) are =
     let rest = bare_shorter ms are.1 in
-    let first : length (spell_mention (bare_mention m.number)) ≡ length (spell_mention m) = ap (λ (s : Option Turn). length (spell_mention (mention_for m.number s))) (sym are.0) in
+    let first : length (spell_mention (bare_mention m.number)) ≡ length (spell_mention m) =
+    ap (λ (s : Option Turn). length (spell_mention (mention_for m.number s))) (sym are.0) in
     omega (arith, rest, first)
 
-sewn_shorter : (ms : List Mention) → size_of (map spell_mention (map sewn_mention (map signed_name ms))) ≤ size_of (map spell_mention ms)
+sewn_shorter : (ms : List Mention) → size_of (map spell_mention (map sewn_mention (map signed_name ms)))
+    ≤ size_of (map spell_mention ms)
 sewn_shorter [] = omega arith
 sewn_shorter (m ∷ ms) =
     let rest = sewn_shorter ms in
@@ -339,8 +389,11 @@ phrase_shorter : (p : Phrase) → IsLegal p → size_of (spelling (phrase_for (m
 phrase_shorter (Replace s place t l) is =
     let target = sign_shorter t.sign t.number in
     let at = location_shorter l place in
-    let whole = size-append (spell_number (codes "at") place) (codes "by" ∷ spell_mention t ∷ spell_number (codes "loc") l) in
-    let written = size-append (spell_number (codes "at") place) (codes "by" ∷ spell_mention (mention_for t.number (sign_for (unwrap_or t.sign Forward))) ∷ spell_number (codes "loc") (location_for place (unwrap_or l (unwrap_or place 0)))) in
+    let whole = size-append (spell_number (codes "at") place)
+    (codes "by" ∷ spell_mention t ∷ spell_number (codes "loc") l) in
+    let written = size-append (spell_number (codes "at") place)
+    (codes "by" ∷ spell_mention (mention_for t.number (sign_for (unwrap_or t.sign Forward))) ∷ spell_number
+    (codes "loc") (location_for place (unwrap_or l (unwrap_or place 0)))) in
     omega (arith, target, at, whole, written)
 phrase_shorter (Remove s place) is = omega arith
 phrase_shorter (Merge ms) is = (let all = bare_shorter ms is.1 in omega (arith, all))
@@ -356,7 +409,8 @@ spelled_some (Sew ms) = omega arith
 spelled_some Apply = omega arith
 spelled_some Undo = omega arith
 
-line_shorter : (line : List ℕ) (p : Phrase) → Spells (words_of line) p → length (line_of_command (meaning_of p)) ≤ length line
+line_shorter : (line : List ℕ) (p : Phrase) → Spells (words_of line) p
+    → length (line_of_command (meaning_of p)) ≤ length line
 line_shorter line p is =
     let shorter = phrase_shorter p is.legal in
     let written = joined_size (spelling (phrase_for (meaning_of p))) (spelled_some (phrase_for (meaning_of p))) in
@@ -373,9 +427,12 @@ module _ (lines : LinesSpellOneCommand) (plain : WrittenIsRead) where
     back = line_back shapes locations few_shapes few_locations lines plain;
     only = only_there shapes locations lines;
     shortest = λ line c e. (let is = command_there shapes locations lines line c e in
-        subst (λ (d : Command). length (line_of_command d) ≤ length line) (sym is.1.1.1) (line_shorter line is.0 is.1.0));
+        subst (λ (d : Command). length (line_of_command d) ≤ length line) (sym is.1.1.1)
+        (line_shorter line is.0 is.1.0));
     told = λ c d has_c has_d same. same_command c d
-        (sym (line_back shapes locations few_shapes few_locations lines plain c has_c) ∙ ap (command_of_line shapes locations) same ∙ line_back shapes locations few_shapes few_locations lines plain d has_d);
+        (sym (line_back shapes locations few_shapes few_locations lines plain c has_c)
+        ∙ ap (command_of_line shapes locations) same ∙ line_back shapes locations few_shapes few_locations lines
+        plain d has_d);
   }
 
   pub commands_have_lines : CommandsHaveLines
