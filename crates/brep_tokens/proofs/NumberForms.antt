@@ -1,5 +1,6 @@
 -- A text of the form of a number is the numeral of its worth, and no other text is one.
-use Rattle.std.proofs.Common.{◌≡◌, ℕ, ◌+◌, ◌*◌, ◌-◌, ◌^◌, ◌<◌, ◌≤◌, inl, inr, Bool, true, false, ◌&&◌, leb, List, [], ◌∷◌, length, get_or, take, refl, sym, subst, arith}
+use Rattle.std.proofs.Common.{◌≡◌, ℕ, ◌+◌, ◌*◌, ◌-◌, ◌^◌, ◌<◌, ◌≤◌, inl, inr, Bool, true, false, ◌&&◌, leb, List, []}
+use Rattle.std.proofs.Common.{◌∷◌, length, get_or, take, refl, sym, subst, arith}
 use Rattle.std.specs.Fmt.{decimal}
 use Rattle.std.specs.Char.{digit_value}
 use Rattle.std.specs.Str.Parse.{digits_value, AllDigits}
@@ -8,7 +9,8 @@ use Rattle.std.proofs.lemmas.List.{nil_from_length}
 use Rattle.std.proofs.lemmas.Bool.Decides.{nat_tests, eqb_tells}
 use Rattle.std.proofs.lemmas.Str.Parse.{IsNumeralModel, numerals_by_value, tells_digits, digits_value_short, digit_at}
 use Rattle.std.proofs.lemmas.Int.Digits.{digits_value_more}
-use Rattle.std.proofs.lemmas.Fmt.{decimal-digits_value, decimal_is_IsNumeral, length-decimal-le, first_decimal, decimal_digit}
+use Rattle.std.proofs.lemmas.Fmt.{decimal-digits_value, decimal_is_IsNumeral, length-decimal-le, first_decimal}
+use Rattle.std.proofs.lemmas.Fmt.{decimal_digit}
 use Rattle.brep_tokens.specs.Bytes.{is_digit}
 use Rattle.brep_tokens.specs.Forms.{IsNumber, is_numeral}
 use Rattle.std.specs.List.{list_all}
@@ -39,7 +41,10 @@ and_right false b h = absurd cc
 
 all_from_test : (text : List ℕ) → list_all is_digit text ≡ true → AllDigits 10 text
 all_from_test [] h = tt
-all_from_test (b ∷ bs) h = (digit_below b (and_left (is_digit b) (list_all is_digit bs) h), all_from_test bs (and_right (is_digit b) (list_all is_digit bs) h))
+all_from_test (b ∷ bs) h = (
+  digit_below b (and_left (is_digit b) (list_all is_digit bs) h),
+  all_from_test bs (and_right (is_digit b) (list_all is_digit bs) h),
+)
 
 test_from_all : (text : List ℕ) → AllDigits 10 text → list_all is_digit text ≡ true
 test_from_all [] h = refl
@@ -51,12 +56,18 @@ numeral_facts (b ∷ bs) h =
     elim (eqb_tells b 48) [
       | inl e ↦ (let g = rw e.0 at h in
           let none : bs ≡ [] = nil_from_length bs (eqb-true _ _ g) in
-          rw (e.1, none) (record { digits = (omega arith, tt); some = omega arith; short = omega arith; first = λ _. refl }))
+          rw (e.1, none) (record {
+            digits = (omega arith, tt);
+            some = omega arith;
+            short = omega arith;
+            first = λ _. refl;
+          }))
       | inr n ↦ (let g = rw n.0 at h in
           record {
             digits = all_from_test (b ∷ bs) (and_right (leb (length bs) 17) (list_all is_digit (b ∷ bs)) g);
             some = omega arith;
-            short = (let fits = leb-true (length bs) 17 (and_left (leb (length bs) 17) (list_all is_digit (b ∷ bs)) g) in omega arith);
+            short = (let fits = leb-true (length bs) 17
+                (and_left (leb (length bs) 17) (list_all is_digit (b ∷ bs)) g) in omega arith);
             first = λ zero. absurd (n.1 zero);
           })
     ]
@@ -77,7 +88,8 @@ IsNumber_of text is =
     let facts = numeral_facts text is in
     record {
       small = worth_below text is;
-      spelled = sym (decimal-digits_value own text facts.digits facts.some facts.first (omega (arith, worth_below text is)));
+      spelled = sym (decimal-digits_value own text facts.digits facts.some facts.first
+          (omega (arith, worth_below text is)));
     }
 
 first_alone : (n : ℕ) → n < 2 ^ 64 → get_or (decimal n) 0 0 ≡ 48 → length (decimal n) ≡ 1
@@ -103,7 +115,8 @@ is_numeral_of text n is = facts_numeral text (subst IsNumeralText (sym is.spelle
 digit_worth : (c : ℕ) → 48 ≤ c → c ≤ 57 → digit_value c ≡ c - 48
 digit_worth c low high = grind (arith, nat_tests)
 
-pub worth_more : (text : List ℕ) (i value : ℕ) → is_numeral text ≡ true → i < length text → value ≡ digits_value 10 (take i text) → value * 10 + (get_or text i 0 - 48) ≡ digits_value 10 (take (i + 1) text)
+pub worth_more : (text : List ℕ) (i value : ℕ) → is_numeral text ≡ true → i < length text
+    → value ≡ digits_value 10 (take i text) → value * 10 + (get_or text i 0 - 48) ≡ digits_value 10 (take (i + 1) text)
 worth_more text i value is lt so_far =
     let at = digit_at text i (numeral_facts text is).digits lt in
     let one : digit_value (get_or text i 0) ≡ get_or text i 0 - 48 = digit_worth (get_or text i 0) at.0 at.1 in

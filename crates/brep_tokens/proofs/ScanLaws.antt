@@ -1,5 +1,6 @@
 -- A scanner gives the version and the tokens of its text.
-use Rattle.std.proofs.Common.{◌≡◌, ℕ, ◌+◌, ◌<◌, ◌≤◌, ◌⊎◌, inl, inr, Bool, true, false, ◌&&◌, if◌then◌else◌, nat_eq, List, [], ◌∷◌, length, take, drop, Some, None, Ok, Err, refl, sym, ap, subst}
+use Rattle.std.proofs.Common.{◌≡◌, ℕ, ◌+◌, ◌<◌, ◌≤◌, ◌⊎◌, inl, inr, Bool, true, false, ◌&&◌, if◌then◌else◌, nat_eq}
+use Rattle.std.proofs.Common.{List, [], ◌∷◌, length, take, drop, Some, None, Ok, Err, refl, sym, ap, subst}
 use Rattle.std.specs.Prelude.{IsErr}
 use Rattle.std.specs.List.{starts_with}
 use Rattle.std.proofs.lemmas.Bool.{le-leb, lt-leb}
@@ -8,7 +9,8 @@ use Rattle.brep_tokens.proofs.Standing.{tokens_stand}
 use Rattle.brep_tokens.specs.Laws.{ScannerGivesTokens, begun}
 use Rattle.brep_tokens.specs.Scan.{coming, head_says, left_after, words_left, words_of}
 use Rattle.brep_tokens.specs.State.{Scan}
-use Rattle.brep_tokens.specs.Tokens.{Head, Word, after_head, head_at, is_line, line_says, line_size, missing, tokens_of, unread, version, version_line, version_mark, words_at}
+use Rattle.brep_tokens.specs.Tokens.{Head, Word, after_head, head_at, is_line, line_says, line_size, missing, tokens_of}
+use Rattle.brep_tokens.specs.Tokens.{unread, version, version_line, version_mark, words_at}
 use Rattle.brep_tokens.specs.declared.fault.ReadCode.TheVariants as codes
 use Rattle.brep_tokens.specs.declared.scanner.Next.TheVariants as next
 
@@ -22,7 +24,8 @@ if_known : (b : Bool) (x y : Head) → IsKnown x → IsKnown y → IsKnown (if b
 if_known true x y h k = h
 if_known false x y h k = k
 
-line_if : (first second : Bool) (line k after : ℕ) (rest : List ℕ) → IsKnown (if first then version 1 after rest else (if second then version 2 after rest else unread line k))
+line_if : (first second : Bool) (line k after : ℕ) (rest : List ℕ)
+    → IsKnown (if first then version 1 after rest else (if second then version 2 after rest else unread line k))
 line_if true second line k after rest = inl refl
 line_if false true line k after rest = inr refl
 line_if false false line k after rest = tt
@@ -30,13 +33,17 @@ line_if false false line k after rest = tt
 line_known : (line k : ℕ) (bytes : List ℕ) → IsKnown (line_says line k bytes)
 unfolding line_says
 line_known line k bytes =
-    line_if (is_line (version_line 1) (take (line_size bytes) bytes)) (is_line (version_line 2) (take (line_size bytes) bytes)) line k (k + (line_size bytes + 1)) (drop (line_size bytes + 1) bytes)
+    line_if (is_line (version_line 1) (take (line_size bytes) bytes))
+    (is_line (version_line 2) (take (line_size bytes) bytes)) line k (k + (line_size bytes + 1))
+    (drop (line_size bytes + 1) bytes)
 
 head_known : (start : Bool) (line k : ℕ) (bytes : List ℕ) → IsKnown (head_at start line k bytes)
 head_known start line k [] = tt
 head_known start line k (b ∷ bs) =
     let next : ℕ = line + (if is_line_end b then 1 else 0) in
-    if_known (start && starts_with nat_eq (b ∷ bs) version_mark) (line_says line k (b ∷ bs)) (head_at (is_line_end b) next (k + 1) bs) (line_known line k (b ∷ bs)) (head_known (is_line_end b) next (k + 1) bs)
+    if_known (start && starts_with nat_eq (b ∷ bs) version_mark) (line_says line k (b ∷ bs))
+    (head_at (is_line_end b) next (k + 1) bs) (line_known line k (b ∷ bs))
+    (head_known (is_line_end b) next (k + 1) bs)
 
 abbrev Pair : Type 0
 Pair = ℕ × List Word
@@ -72,13 +79,15 @@ version_missing bytes e = head_fails (length bytes) (head_at true 1 0 bytes) e
 
 token_given : (s : Scan) (w : Word) (ws : List Word) → s.headed ≡ true → words_left s ≡ w ∷ ws → length w.text ≤ 128
     → (coming s ≡ Ok (next.Token (record { offset = w.offset; text = w.text }))) × (left_after s ≡ ws)
-token_given s w ws headed left short = (rw (headed, left, le-leb (length w.text) 128 short) refl, rw (headed, left) refl)
+token_given s w ws headed left short =
+    (rw (headed, left, le-leb (length w.text) 128 short) refl, rw (headed, left) refl)
 
 token_refused : (s : Scan) (w : Word) (ws : List Word) → s.headed ≡ true → words_left s ≡ w ∷ ws → 128 < length w.text
     → coming s ≡ Err (record { code = codes.TokenTooLong; offset = w.offset; value = 129; limit = 128 })
 token_refused s w ws headed left long = rw (headed, left, lt-leb (length w.text) 128 long) refl
 
-end_given : (s : Scan) → s.headed ≡ true → words_left s ≡ [] → (coming s ≡ Ok (next.End (length s.fed))) × (left_after s ≡ [])
+end_given : (s : Scan) → s.headed ≡ true → words_left s ≡ [] → (coming s ≡ Ok (next.End (length s.fed)))
+    × (left_after s ≡ [])
 end_given s headed left = (rw (headed, left) refl, rw (headed, left) refl)
 
 pub scanner_gives_tokens : ScannerGivesTokens

@@ -1,5 +1,6 @@
 -- The forms of tokens that stand for a number, a flag, a signed use or a continuity word.
-use Rattle.std.specs.Prelude.{◌≡◌, ℕ, ℤ, pos, negsuc, unsigned_abs, ◌^◌, ◌<◌, ◌-◌, ◌==◌, ◌&&◌, ◌||◌, nat_le, Bool, true, false, if◌then◌else◌, List, [], ◌∷◌, length, codes, Option, Some, None}
+use Rattle.std.specs.Prelude.{◌≡◌, ℕ, ℤ, pos, negsuc, unsigned_abs, ◌^◌, ◌<◌, ◌-◌, ◌==◌, ◌&&◌, ◌||◌, nat_le, Bool, true}
+use Rattle.std.specs.Prelude.{false, if◌then◌else◌, List, [], ◌∷◌, length, codes, Option, Some, None}
 use Rattle.std.specs.List.{list_all}
 use Rattle.std.specs.Str.Parse.{digits_value}
 use Rattle.std.specs.Fmt.{decimal, signed_decimal}
@@ -48,7 +49,8 @@ flag_text b = if b then 49 ∷ [] else 48 ∷ []
 -- the flag that a text spells, if it is one
 abbrev pub flag_of : List ℕ → Option Bool
 flag_of [] = None
-flag_of (b ∷ bs) = if length bs == 0 then (if b == 48 then Some false else (if b == 49 then Some true else None)) else None
+flag_of (b ∷ bs) = if length bs == 0 then (if b == 48 then Some false else (if b == 49 then Some true else None)) else
+    None
 
 -- ---- use signs: `+`, `-`, `i` or `e`, joined to a number
 
@@ -101,7 +103,8 @@ is_digits text = starts_digit text && length (after_digits text) == 0
 abbrev pub is_exponent : List ℕ → Bool
 is_exponent [] = true
 is_exponent (e ∷ []) = false
-is_exponent (e ∷ s ∷ rest) = ((e == 101) || (e == 69)) && (if (s == 43) || (s == 45) then is_digits rest else is_digits (s ∷ rest))
+is_exponent (e ∷ s ∷ rest) = ((e == 101) || (e == 69))
+    && (if (s == 43) || (s == 45) then is_digits rest else is_digits (s ∷ rest))
 
 -- after the digits at the front: perhaps `.` and perhaps digits, and an exponent
 abbrev pub is_fraction : List ℕ → Bool
@@ -110,7 +113,8 @@ is_fraction (b ∷ bs) = if b == 46 then is_exponent (after_digits bs) else is_e
 
 abbrev pub is_unsigned : List ℕ → Bool
 is_unsigned [] = false
-is_unsigned (b ∷ bs) = if b == 46 then starts_digit bs && is_exponent (after_digits bs) else (is_digit b && is_fraction (after_digits bs))
+is_unsigned (b ∷ bs) = if b == 46 then starts_digit bs && is_exponent (after_digits bs) else
+    (is_digit b && is_fraction (after_digits bs))
 
 unfoldable pub is_decimal : List ℕ → Bool
 is_decimal [] = false

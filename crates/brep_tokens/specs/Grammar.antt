@@ -32,7 +32,8 @@ IsMantissa text =
 
 -- nothing; or `e` or `E`, perhaps a sign, and digits
 abbrev pub MayBeExponent : List ℕ → Type 0
-MayBeExponent text = (text ≡ []) ⊎ ((mark sign digits : List ℕ) × IsMark mark × MayBeSign sign × AreDigits digits × (text ≡ mark ++ (sign ++ digits)))
+MayBeExponent text = (text ≡ []) ⊎ ((mark sign digits : List ℕ) × IsMark mark × MayBeSign sign × AreDigits digits
+    × (text ≡ mark ++ (sign ++ digits)))
 
 -- perhaps `-`, a mantissa, perhaps an exponent
 pub record IsDecimalByGrammar (text : List ℕ) : Type 0 where

@@ -1,8 +1,10 @@
 -- What holds of all texts: the forms of tokens are those of their grammar, and a scanner gives the tokens of its text.
-use Rattle.std.specs.Prelude.{◌≡◌, ◌↔◌, ◌≤◌, ◌<◌, ◌⊎◌, ℕ, ℤ, Bool, true, false, List, [], ◌∷◌, length, Some, None, Ok, Err, IsErr, slice_get, take, drop}
+use Rattle.std.specs.Prelude.{◌≡◌, ◌↔◌, ◌≤◌, ◌<◌, ◌⊎◌, ℕ, ℤ, Bool, true, false, List, [], ◌∷◌, length, Some, None, Ok}
+use Rattle.std.specs.Prelude.{Err, IsErr, slice_get, take, drop}
 use Rattle.std.specs.List.{AllByRecursion, list_all}
 use Rattle.brep_tokens.specs.Bytes.{is_dark}
-use Rattle.brep_tokens.specs.Forms.{IsNumber, IsPower, IsUseSign, continuity_of, continuity_words, flag_of, flag_text, is_decimal, number_of, power_of, use_sign_of}
+use Rattle.brep_tokens.specs.Forms.{IsNumber, IsPower, IsUseSign, continuity_of, continuity_words, flag_of, flag_text}
+use Rattle.brep_tokens.specs.Forms.{is_decimal, number_of, power_of, use_sign_of}
 use Rattle.brep_tokens.specs.Grammar.{IsDecimalByGrammar}
 use Rattle.brep_tokens.specs.Scan.{coming, left_after, words_left}
 use Rattle.brep_tokens.specs.State.{Scan}
@@ -16,7 +18,8 @@ pub record FormsAreExact : Type 0 where
   pub powers : (text : List ℕ) (p : ℤ) → (power_of text ≡ Some p) ↔ IsPower text p
   pub flags : (text : List ℕ) (b : Bool) → (flag_of text ≡ Some b) ↔ (text ≡ flag_text b)
   pub use_signs : (text : List ℕ) (s n : ℕ) → (use_sign_of text ≡ Some (s, n)) ↔ IsUseSign text s n
-  pub continuities : (text : List ℕ) (k : ℕ) → (continuity_of text ≡ Some k) ↔ (slice_get continuity_words k ≡ Some text)
+  pub continuities : (text : List ℕ) (k : ℕ) → (continuity_of text ≡ Some k)
+      ↔ (slice_get continuity_words k ≡ Some text)
   pub decimals : (text : List ℕ) → (is_decimal text ≡ true) ↔ IsDecimalByGrammar text
 
 -- a scanner that was fed a whole text, before its first answer
@@ -33,10 +36,12 @@ pub record StandsIn (bytes : List ℕ) (w : Word) : Type 0 where
 pub record ScannerGivesTokens : Type 0 where
   pub version : (bytes : List ℕ) (v : ℕ) (ws : List Word) → tokens_of bytes ≡ Some (v, ws)
       → (coming (begun bytes) ≡ Ok (next.Version v)) × (left_after (begun bytes) ≡ ws) × ((v ≡ 1) ⊎ (v ≡ 2))
-  pub stands : (bytes : List ℕ) (v : ℕ) (ws : List Word) → tokens_of bytes ≡ Some (v, ws) → AllByRecursion (StandsIn bytes) ws
+  pub stands : (bytes : List ℕ) (v : ℕ) (ws : List Word) → tokens_of bytes ≡ Some (v, ws)
+      → AllByRecursion (StandsIn bytes) ws
   pub no_version : (bytes : List ℕ) → tokens_of bytes ≡ None → IsErr (coming (begun bytes))
   pub token : (s : Scan) (w : Word) (ws : List Word) → s.headed ≡ true → words_left s ≡ w ∷ ws → length w.text ≤ 128
       → (coming s ≡ Ok (next.Token (record { offset = w.offset; text = w.text }))) × (left_after s ≡ ws)
   pub too_long : (s : Scan) (w : Word) (ws : List Word) → s.headed ≡ true → words_left s ≡ w ∷ ws → 128 < length w.text
       → coming s ≡ Err (record { code = codes.TokenTooLong; offset = w.offset; value = 129; limit = 128 })
-  pub end : (s : Scan) → s.headed ≡ true → words_left s ≡ [] → (coming s ≡ Ok (next.End (length s.fed))) × (left_after s ≡ [])
+  pub end : (s : Scan) → s.headed ≡ true → words_left s ≡ [] → (coming s ≡ Ok (next.End (length s.fed)))
+      × (left_after s ≡ [])

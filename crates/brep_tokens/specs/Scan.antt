@@ -1,5 +1,6 @@
 -- A scanner, what it has still to give, and what its next call answers.
-use Rattle.std.specs.Prelude.{ℕ, true, List, [], ◌∷◌, drop, length, nat_le, ◌≡◌, if◌then◌else◌, Result, Ok, Err, Option, Some, None, take, ◌-◌, ◌<◌, ◌≤◌}
+use Rattle.std.specs.Prelude.{ℕ, true, List, [], ◌∷◌, drop, length, nat_le, ◌≡◌, if◌then◌else◌, Result, Ok, Err, Option}
+use Rattle.std.specs.Prelude.{Some, None, take, ◌-◌, ◌<◌, ◌≤◌}
 use Rattle.brep_tokens.specs.Tokens.{Word, words_at, Head, missing, unread, version, head_at}
 use Rattle.brep_tokens.specs.declared.fault.ReadFault.{ReadFault}
 use Rattle.brep_tokens.specs.declared.fault.ReadCode.TheVariants as codes
@@ -54,9 +55,11 @@ FirstWord bytes at None = words_at at (drop at bytes) ≡ []
 FirstWord bytes at (Some (start, end)) =
     (start < end)
     × (end ≤ length bytes)
-    × (words_at at (drop at bytes) ≡ record { offset = start; text = take (end - start) (drop start bytes) } ∷ words_at end (drop end bytes))
+    × (words_at at (drop at bytes) ≡ record { offset = start; text = take (end - start) (drop start bytes) }
+    ∷ words_at end (drop end bytes))
 
 -- the version and where the text after the version line begins, or the fault
 abbrev pub IsHead : List ℕ → Result (ℕ × ℕ) ReadFault → Head → Type 0
-IsHead bytes (Ok r) head = (r.1 ≤ length bytes) × ((k : ℕ) × (rest : List ℕ) × (head ≡ version r.0 k rest) × (words_at k rest ≡ words_at r.1 (drop r.1 bytes)))
+IsHead bytes (Ok r) head = (r.1 ≤ length bytes) × ((k : ℕ) × (rest : List ℕ) × (head ≡ version r.0 k rest)
+    × (words_at k rest ≡ words_at r.1 (drop r.1 bytes)))
 IsHead bytes (Err e) head = head_says (length bytes) head ≡ Err e

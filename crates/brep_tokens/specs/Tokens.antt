@@ -1,5 +1,6 @@
 -- The tokens of a whole text: the version line, and the words after it with their offsets.
-use Rattle.std.specs.Prelude.{ℕ, ◌+◌, ◌-◌, Bool, true, ◌&&◌, nat_le, slice_index, is_some, if◌then◌else◌, List, [], ◌∷◌, ◌++◌, length, take, drop, suc, Option, Some, None, codes, nat_eq}
+use Rattle.std.specs.Prelude.{ℕ, ◌+◌, ◌-◌, Bool, true, ◌&&◌, nat_le, slice_index, is_some, if◌then◌else◌, List, [], ◌∷◌}
+use Rattle.std.specs.Prelude.{◌++◌, length, take, drop, suc, Option, Some, None, codes, nat_eq}
 use Rattle.std.specs.List.{starts_with, list_all, flat_map}
 use Rattle.brep_tokens.specs.Bytes.{is_white, is_digit, is_trailing, is_line_end}
 use Rattle.brep_tokens.specs.Forms.{continuity_place}
@@ -23,13 +24,15 @@ abbrev pub runs_at : ℕ → List ℕ → List Word
 runs_at k [] = []
 runs_at k (b ∷ bs) =
     if is_white b then runs_at (k + 1) bs
-    else (if starts_white bs then record { offset = k; text = b ∷ [] } ∷ runs_at (k + 1) bs else onto k b (runs_at (k + 1) bs))
+    else (if starts_white bs then record { offset = k; text = b ∷ [] } ∷ runs_at (k + 1) bs else onto k b
+    (runs_at (k + 1) bs))
 
 -- Digits, at least one, and directly after them a continuity word.
 abbrev pub is_joined : List ℕ → Bool
 is_joined text =
     nat_le 3 (length text)
-    && (is_some (continuity_place (slice_index text (length text - 2)) (slice_index text (length text - 1))) && list_all is_digit (take (length text - 2) text))
+    && (is_some (continuity_place (slice_index text (length text - 2)) (slice_index text (length text - 1)))
+    && list_all is_digit (take (length text - 2) text))
 
 -- such a run is two tokens
 unfoldable pub parts : Word → List Word
@@ -72,8 +75,10 @@ line_size (b ∷ bs) = if is_line_end b then 0 else suc (line_size bs)
 -- what the line at the front says, which begins as a version line
 unfoldable pub line_says : ℕ → ℕ → List ℕ → Head
 line_says line k bytes =
-    if is_line (version_line 1) (take (line_size bytes) bytes) then version 1 (k + (line_size bytes + 1)) (drop (line_size bytes + 1) bytes)
-    else (if is_line (version_line 2) (take (line_size bytes) bytes) then version 2 (k + (line_size bytes + 1)) (drop (line_size bytes + 1) bytes) else unread line k)
+    if is_line (version_line 1) (take (line_size bytes) bytes) then version 1 (k + (line_size bytes + 1))
+    (drop (line_size bytes + 1) bytes)
+    else (if is_line (version_line 2) (take (line_size bytes) bytes) then version 2 (k + (line_size bytes + 1))
+    (drop (line_size bytes + 1) bytes) else unread line k)
 
 -- over the lines, the flag telling whether one begins here
 abbrev pub head_at : Bool → ℕ → ℕ → List ℕ → Head

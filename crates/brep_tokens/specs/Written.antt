@@ -1,5 +1,6 @@
 -- Words that are written line by line, and the tokens that are read back.
-use Rattle.std.specs.Prelude.{◌≡◌, ◌⊎◌, ℕ, ℤ, ◌<◌, ◌-◌, ◌&&◌, not, nat_lt, Bool, true, if◌then◌else◌, List, [], ◌∷◌, ◌++◌, length, take, drop, map, Some, slice_get}
+use Rattle.std.specs.Prelude.{◌≡◌, ◌⊎◌, ℕ, ℤ, ◌<◌, ◌-◌, ◌&&◌, not, nat_lt, Bool, true, if◌then◌else◌, List, [], ◌∷◌}
+use Rattle.std.specs.Prelude.{◌++◌, length, take, drop, map, Some, slice_get}
 use Rattle.std.specs.List.{AllByRecursion, flat_map, join_with_byte, list_all}
 use Rattle.std.specs.Fmt.{decimal, signed_decimal}
 use Rattle.brep_tokens.specs.Bytes.{is_dark, is_flag, is_sign}
@@ -37,11 +38,13 @@ HasTokens bytes v texts = (ws : List Word) × (tokens_of bytes ≡ Some (v, ws))
 
 -- What is written line by line after a version line is read back, and what is written there is mostly plain.
 pub record WrittenIsRead : Type 0 where
-  pub read : (v : ℕ) (lines : List (List (List ℕ))) → (v ≡ 1) ⊎ (v ≡ 2) → AllByRecursion (AllByRecursion IsDarkWord) lines
+  pub read : (v : ℕ) (lines : List (List (List ℕ))) → (v ≡ 1) ⊎ (v ≡ 2)
+      → AllByRecursion (AllByRecursion IsDarkWord) lines
       → HasTokens (version_line v ++ 10 ∷ lines_text lines) v (flat_map (flat_map split_word) lines)
   pub plain : (text : List ℕ) → IsPlain text → IsDarkWord text × (split_word text ≡ text ∷ [])
   pub plain_lines : (lines : List (List (List ℕ))) → AllByRecursion (AllByRecursion IsPlain) lines
-      → AllByRecursion (AllByRecursion IsDarkWord) lines × (flat_map (flat_map split_word) lines ≡ flat_map (λ words. words) lines)
+      → AllByRecursion (AllByRecursion IsDarkWord) lines
+      × (flat_map (flat_map split_word) lines ≡ flat_map (λ words. words) lines)
   pub joined : (n place : ℕ) (word : List ℕ) → slice_get continuity_words place ≡ Some word
       → IsDarkWord (decimal n ++ word) × (split_word (decimal n ++ word) ≡ decimal n ∷ word ∷ [])
   pub continuities : (place : ℕ) (word : List ℕ) → slice_get continuity_words place ≡ Some word → IsPlain word

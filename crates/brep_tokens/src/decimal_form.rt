@@ -1,5 +1,6 @@
 //! Tokens that spell a decimal.
-ghost use Rattle.brep_tokens.specs.Forms.{after_digits, is_decimal, is_digits, is_exponent, is_fraction, is_unsigned, starts_digit};
+ghost use Rattle.brep_tokens.specs.Forms.{after_digits, is_decimal, is_digits, is_exponent, is_fraction, is_unsigned};
+ghost use Rattle.brep_tokens.specs.Forms.{starts_digit};
 ghost use Rattle.brep_tokens.specs.Grammar.{IsDecimalByGrammar};
 ghost use Rattle.std.specs.Prelude.{◌≡◌, ◌↔◌, IsTrue};
 

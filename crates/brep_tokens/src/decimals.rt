@@ -1,6 +1,7 @@
 //! A list of decimals as they are spelled.
 ghost use Rattle.brep_tokens.specs.Pieces.{AreEnds, pieces, start_of};
-ghost use Rattle.std.specs.Prelude.{◌≡◌, ◌∷◌, ◌++◌, ◌+◌, ◌^◌, ◌<◌, ◌≤◌, ◌↔◌, IfNone, IfSome, IsTrue, OnErr, OnOk, Some, [], length, slice_get};
+ghost use Rattle.std.specs.Prelude.{◌≡◌, ◌∷◌, ◌++◌, ◌+◌, ◌^◌, ◌<◌, ◌≤◌, ◌↔◌, IfNone, IfSome, IsTrue, OnErr, OnOk, Some};
+ghost use Rattle.std.specs.Prelude.{[], length, slice_get};
 
 use smallvec::SmallVec;
 use std::alloc::{AllocError, Global};

@@ -1,5 +1,7 @@
 //! Tokens that spell a number, a power, a flag, a signed use or a continuity word.
-ghost use Rattle.brep_tokens.specs.Forms.{IsNumber, IsPower, IsUseSign, continuity_of, continuity_place, continuity_words, flag_of, flag_text, is_numeral, number_of, power_of, use_sign_of};
+ghost use Rattle.brep_tokens.specs.Forms.{IsNumber, IsPower, IsUseSign, continuity_of, continuity_place};
+ghost use Rattle.brep_tokens.specs.Forms.{continuity_words, flag_of, flag_text, is_numeral, number_of, power_of};
+ghost use Rattle.brep_tokens.specs.Forms.{use_sign_of};
 ghost use Rattle.std.specs.Prelude.{◌≡◌, ℕ, ℤ, Bool, Contains, IfNone, IfSome, Some, slice_get, true};
 ghost use Rattle.std.specs.Str.Parse.{digits_value};
 

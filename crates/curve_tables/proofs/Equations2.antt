@@ -27,12 +27,14 @@ module _ (texts : List (List ℕ)) (c : Curve2) where
   can_spell_around Trimmed wraps can = (wraps, can)
   can_spell_around Offset wraps can = (wraps, can)
 
-  pub sound_basis : (nest : ℕ) (w : Wrap) → IsSoundIn2 nest (wrapped2 w texts c) → IsWrapped Plane nest w texts × IsSoundIn2 (suc nest) c
+  pub sound_basis : (nest : ℕ) (w : Wrap) → IsSoundIn2 nest (wrapped2 w texts c) → IsWrapped Plane nest w texts
+      × IsSoundIn2 (suc nest) c
   unfolding Rattle.curve_tables.specs.declared.curve2.Curve2.TheBlock.hidden-the_row-Curve2-0 denote.Hole.Carrier.hidden
   sound_basis nest Trimmed is = is
   sound_basis nest Offset is = is
 
-  pub sound_around : (nest : ℕ) (w : Wrap) → IsWrapped Plane nest w texts → IsSoundIn2 (suc nest) c → IsSoundIn2 nest (wrapped2 w texts c)
+  pub sound_around : (nest : ℕ) (w : Wrap) → IsWrapped Plane nest w texts → IsSoundIn2 (suc nest) c
+      → IsSoundIn2 nest (wrapped2 w texts c)
   unfolding Rattle.curve_tables.specs.declared.curve2.Curve2.TheBlock.hidden-the_row-Curve2-0 denote.Hole.Carrier.hidden
   sound_around nest Trimmed wraps is = (wraps, is)
   sound_around nest Offset wraps is = (wraps, is)

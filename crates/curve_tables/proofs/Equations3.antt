@@ -27,12 +27,14 @@ module _ (texts : List (List ℕ)) (c : Curve3) where
   can_spell_around Trimmed wraps can = (wraps, can)
   can_spell_around Offset wraps can = (wraps, can)
 
-  pub sound_basis : (nest : ℕ) (w : Wrap) → IsSound3 nest (wrapped3 w texts c) → IsWrapped Space nest w texts × IsSound3 (suc nest) c
+  pub sound_basis : (nest : ℕ) (w : Wrap) → IsSound3 nest (wrapped3 w texts c) → IsWrapped Space nest w texts
+      × IsSound3 (suc nest) c
   unfolding Rattle.curve_tables.specs.declared.curve3.Curve3.TheBlock.hidden-the_row-Curve3-0 denote.Hole.Carrier.hidden
   sound_basis nest Trimmed is = is
   sound_basis nest Offset is = is
 
-  pub sound_around : (nest : ℕ) (w : Wrap) → IsWrapped Space nest w texts → IsSound3 (suc nest) c → IsSound3 nest (wrapped3 w texts c)
+  pub sound_around : (nest : ℕ) (w : Wrap) → IsWrapped Space nest w texts → IsSound3 (suc nest) c
+      → IsSound3 nest (wrapped3 w texts c)
   unfolding Rattle.curve_tables.specs.declared.curve3.Curve3.TheBlock.hidden-the_row-Curve3-0 denote.Hole.Carrier.hidden
   sound_around nest Trimmed wraps is = (wraps, is)
   sound_around nest Offset wraps is = (wraps, is)

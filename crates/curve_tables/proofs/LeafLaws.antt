@@ -10,7 +10,8 @@ use Rattle.curve_tables.specs.Sound.{IsBSpline, IsBezier, IsPlain}
 use Rattle.curve_tables.specs.declared.parts.Dimension.{Dimension}
 use Rattle.curve_tables.specs.declared.parts.Form.TheVariants.{Plain, Bezier, BSpline}
 
-pub all_join : (P : List ℕ → Type 0) (xs ys : List (List ℕ)) → AllByRecursion P xs → AllByRecursion P ys → AllByRecursion P (xs ++ ys)
+pub all_join : (P : List ℕ → Type 0) (xs ys : List (List ℕ)) → AllByRecursion P xs → AllByRecursion P ys
+    → AllByRecursion P (xs ++ ys)
 all_join P [] ys a b = b
 all_join P (x ∷ xs) ys a b = (a.0, all_join P xs ys a.1 b)
 
@@ -41,7 +42,8 @@ no_knots = record { texts = (refl, tt); counts = (refl, tt) }
 -- ---- knots with their multiplicities
 
 module _ (fields : FieldsAreDecimals) where
-  pub pairs_forms : (xs : List (List ℕ)) (ns : List ℕ) → AllByRecursion IsDecimal xs → AllByRecursion IsSmall ns → AllByRecursion IsDecimal (zipped xs ns)
+  pub pairs_forms : (xs : List (List ℕ)) (ns : List ℕ) → AllByRecursion IsDecimal xs → AllByRecursion IsSmall ns
+      → AllByRecursion IsDecimal (zipped xs ns)
   pairs_forms [] ns a b = tt
   pairs_forms (x ∷ xs) [] a b = tt
   pairs_forms (x ∷ xs) (n ∷ ns) a b = (a.0, (fields.number n b.0, pairs_forms xs ns a.1 b.1))
@@ -54,14 +56,18 @@ pairs_short (x ∷ xs) (n ∷ ns) even short = (short.0, pairs_short xs ns (omeg
 -- ---- the leaf
 
 module _ (d : Dimension) (nest : ℕ) (texts : List (List ℕ)) (knots : Knots) where
-  pub plain_sound : (code : ℕ) → nest < 64 → IsForm (Plain code) (length knots.texts) → AreDecimals (form_size d (Plain code)) texts → IsPlain d nest code texts
+  pub plain_sound : (code : ℕ) → nest < 64 → IsForm (Plain code) (length knots.texts)
+      → AreDecimals (form_size d (Plain code)) texts → IsPlain d nest code texts
   plain_sound code lt is are = record { nested = lt; from = is.0; to = is.1; decimals = are }
 
-  pub bezier_sound : (rational : Bool) (degree : ℕ) → nest < 64 → IsForm (Bezier rational degree) (length knots.texts) → AreDecimals (form_size d (Bezier rational degree)) texts → IsBezier d nest rational degree texts
+  pub bezier_sound : (rational : Bool) (degree : ℕ) → nest < 64 → IsForm (Bezier rational degree) (length knots.texts)
+      → AreDecimals (form_size d (Bezier rational degree)) texts → IsBezier d nest rational degree texts
   bezier_sound rational degree lt is are = record { nested = lt; small = is.0; decimals = are }
 
-  pub spline_sound : (rational flag : Bool) (degree poles : ℕ) → nest < 64 → IsForm (BSpline rational flag degree poles) (length knots.texts)
-      → AreDecimals (form_size d (BSpline rational flag degree poles)) texts → AreKnots (length knots.texts) knots → IsBSpline d nest rational degree poles texts knots.texts knots.counts
+  pub spline_sound : (rational flag : Bool) (degree poles : ℕ) → nest < 64
+      → IsForm (BSpline rational flag degree poles) (length knots.texts)
+      → AreDecimals (form_size d (BSpline rational flag degree poles)) texts → AreKnots (length knots.texts) knots
+      → IsBSpline d nest rational degree poles texts knots.texts knots.counts
   spline_sound rational flag degree poles lt is are pairs = record {
     nested = lt;
     small = is.0;
@@ -75,15 +81,39 @@ module _ (d : Dimension) (nest : ℕ) (texts : List (List ℕ)) (knots : Knots) 
 
 -- a curve without a basis, taken apart
 module _ (d : Dimension) (nest room : ℕ) (fits : nest + room ≡ 64) where
-  pub of_plain : (code : ℕ) (texts : List (List ℕ)) → IsPlain d nest code texts → IsSoundChain d room (record { frames = []; form = Plain code; texts = texts; knots = without_knots })
-  of_plain code texts is = record { nest = omega (arith, is.nested, fits); frames = tt; form = (is.from, is.to, refl); texts = is.decimals; knots = no_knots }
+  pub of_plain : (code : ℕ) (texts : List (List ℕ)) → IsPlain d nest code texts
+      → IsSoundChain d room (record { frames = []; form = Plain code; texts = texts; knots = without_knots })
+  of_plain code texts is = record {
+    nest = omega (arith, is.nested, fits);
+    frames = tt;
+    form = (is.from, is.to, refl);
+    texts = is.decimals;
+    knots = no_knots;
+  }
 
   pub of_bezier : (rational : Bool) (degree : ℕ) (poles : List (List ℕ)) → IsBezier d nest rational degree poles
-      → IsSoundChain d room (record { frames = []; form = Bezier rational degree; texts = poles; knots = without_knots })
-  of_bezier rational degree poles is = record { nest = omega (arith, is.nested, fits); frames = tt; form = (is.small, refl); texts = is.decimals; knots = no_knots }
+      → IsSoundChain d room (record {
+        frames = [];
+        form = Bezier rational degree;
+        texts = poles;
+        knots = without_knots;
+      })
+  of_bezier rational degree poles is = record {
+    nest = omega (arith, is.nested, fits);
+    frames = tt;
+    form = (is.small, refl);
+    texts = is.decimals;
+    knots = no_knots;
+  }
 
-  pub of_spline : (rational flag : Bool) (degree count : ℕ) (poles knots : List (List ℕ)) (multiplicities : List ℕ) → IsBSpline d nest rational degree count poles knots multiplicities
-      → IsSoundChain d room (record { frames = []; form = BSpline rational flag degree count; texts = poles; knots = record { texts = knots; counts = multiplicities } })
+  pub of_spline : (rational flag : Bool) (degree count : ℕ) (poles knots : List (List ℕ)) (multiplicities : List ℕ)
+      → IsBSpline d nest rational degree count poles knots multiplicities
+      → IsSoundChain d room (record {
+        frames = [];
+        form = BSpline rational flag degree count;
+        texts = poles;
+        knots = record { texts = knots; counts = multiplicities };
+      })
   of_spline rational flag degree count poles knots multiplicities is = record {
     nest = omega (arith, is.nested, fits);
     frames = tt;

@@ -4,6 +4,7 @@ pub mod Waiting
 pub mod Equations2
 pub mod Equations3
 pub mod ChainLaws
+pub mod ChainBack
 pub mod LeafLaws
 pub mod CurveLaws2
 pub mod CurveLaws3

@@ -30,7 +30,8 @@ knots_then r form texts read = read >>= λ k. Ok (with_knots r form texts k.0, k
 
 abbrev pub after_texts : ChainReader → After → List (List ℕ) → List Token → Read Chain
 after_texts r (afters.Leaf form count) texts ts = knots_then r form texts (knots_at count ts)
-after_texts r (afters.Basis wrap) texts ts = chain_at r.dimension r.room (r.frames ++ record { wrap = wrap; texts = texts } ∷ []) ts
+after_texts r (afters.Basis wrap) texts ts =
+    chain_at r.dimension r.room (r.frames ++ record { wrap = wrap; texts = texts } ∷ []) ts
 
 abbrev pub at_stage : Stage → ChainReader → List Token → Read Chain
 at_stage stages.Code r ts = chain_at r.dimension r.room r.frames ts
@@ -44,7 +45,8 @@ at_stage (stages.SplineFlag q) r ts = do
   degree ← number_at flag.1
   poles ← number_at degree.1
   knots ← number_at poles.1
-  leaf_at r.dimension r.frames (forms.BSpline q flag.0 degree.0 poles.0) (poles.0 * per_pole r.dimension q) knots.0 knots.1
+  leaf_at r.dimension r.frames (forms.BSpline q flag.0 degree.0 poles.0) (poles.0 * per_pole r.dimension q)
+      knots.0 knots.1
 at_stage (stages.SplineDegree q f) r ts = do
   degree ← number_at ts
   poles ← number_at degree.1

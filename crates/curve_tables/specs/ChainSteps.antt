@@ -27,7 +27,8 @@ OpensCode old code new =
 -- the decimals of a trimmed or offset curve are due, and then its basis
 abbrev pub OpensWrap : ChainReader → Wrap → ChainReader → Type 0
 OpensWrap old wrap new =
-    (ts : List Token) → chain_left new ts ≡ wrapped_at old.dimension wrap old.frames (chain_at old.dimension old.room) ts
+    (ts : List Token) → chain_left new ts ≡ wrapped_at old.dimension wrap old.frames
+    (chain_at old.dimension old.room) ts
 
 -- so many decimals of this form are due, and then so many knots
 abbrev pub OpensLeaf : ChainReader → Form → ℕ → ℕ → ChainReader → Type 0

@@ -1,5 +1,6 @@
 -- Reading a curve in either dimension: the trimmed and offset curves around it, then the curve itself.
-use Rattle.std.specs.Prelude.{ℕ, zero, suc, ◌+◌, ◌*◌, ◌==◌, ◌&&◌, nat_le, Bool, if◌then◌else◌, List, [], ◌∷◌, ◌++◌, Ok, Err}
+use Rattle.std.specs.Prelude.{ℕ, zero, suc, ◌+◌, ◌*◌, ◌==◌, ◌&&◌, nat_le, Bool, if◌then◌else◌, List, [], ◌∷◌, ◌++◌, Ok}
+use Rattle.std.specs.Prelude.{Err}
 use Rattle.lists.specs.Results.{◌>>=◌}
 use Rattle.entry_readers.specs.Reading.{Knots, Read, at_token, decimals_at, fault, flag_at, knots_at, more, number_at}
 use Rattle.brep_tokens.specs.declared.text.Token.{Token}
@@ -25,7 +26,8 @@ is_code n = nat_le 1 n && nat_le n 9
 -- the code of a curve, with its token
 abbrev pub code_at : List Token → Read (ℕ × Token)
 code_at [] = Err more
-code_at (t ∷ ts) = number_at (t ∷ ts) >>= λ n. if is_code n.0 then Ok ((n.0, t), n.1) else Err (fault (at_token codes.UnknownCode n.0 0 t))
+code_at (t ∷ ts) = number_at (t ∷ ts) >>= λ n. if is_code n.0 then Ok ((n.0, t), n.1)
+    else Err (fault (at_token codes.UnknownCode n.0 0 t))
 
 module _ (d : Dimension) (frames : List Frame) where
   -- so many decimals, then so many knots

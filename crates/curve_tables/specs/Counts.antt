@@ -7,8 +7,10 @@ use Rattle.curve_tables.specs.declared.parts.Wrap.TheVariants.{Trimmed, Offset}
 
 -- line 1, circle 2, ellipse 3, parabola 4, hyperbola 5
 abbrev pub plain_size : Dimension → ℕ → ℕ
-plain_size Plane code = if code == 1 then 4 else (if code == 2 then 7 else (if code == 3 then 8 else (if code == 4 then 7 else 8)))
-plain_size Space code = if code == 1 then 6 else (if code == 2 then 13 else (if code == 3 then 14 else (if code == 4 then 13 else 14)))
+plain_size Plane code = if code == 1 then 4
+    else (if code == 2 then 7 else (if code == 3 then 8 else (if code == 4 then 7 else 8)))
+plain_size Space code = if code == 1 then 6
+    else (if code == 2 then 13 else (if code == 3 then 14 else (if code == 4 then 13 else 14)))
 
 -- a pole, and its weight where the curve is rational
 abbrev pub per_pole : Dimension → Bool → ℕ

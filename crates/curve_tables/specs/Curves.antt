@@ -20,7 +20,8 @@ use Rattle.curve_tables.specs.declared.curve3.Curve3.TheVariants as curves3
 abbrev pub leaf2 : Form → List (List ℕ) → Knots → Curve2
 leaf2 (forms.Plain code) texts knots = curves2.Plain code texts
 leaf2 (forms.Bezier rational degree) texts knots = curves2.Bezier rational degree texts
-leaf2 (forms.BSpline rational flag degree poles) texts knots = curves2.BSpline rational flag degree poles texts knots.texts knots.counts
+leaf2 (forms.BSpline rational flag degree poles) texts knots =
+    curves2.BSpline rational flag degree poles texts knots.texts knots.counts
 
 abbrev pub wrapped2 : Wrap → List (List ℕ) → Curve2 → Curve2
 wrapped2 Trimmed texts basis = curves2.Trimmed texts basis
@@ -36,7 +37,8 @@ curve2_of c = framed2 c.frames (leaf2 c.form c.texts c.knots)
 abbrev pub leaf3 : Form → List (List ℕ) → Knots → Curve3
 leaf3 (forms.Plain code) texts knots = curves3.Plain code texts
 leaf3 (forms.Bezier rational degree) texts knots = curves3.Bezier rational degree texts
-leaf3 (forms.BSpline rational flag degree poles) texts knots = curves3.BSpline rational flag degree poles texts knots.texts knots.counts
+leaf3 (forms.BSpline rational flag degree poles) texts knots =
+    curves3.BSpline rational flag degree poles texts knots.texts knots.counts
 
 abbrev pub wrapped3 : Wrap → List (List ℕ) → Curve3 → Curve3
 wrapped3 Trimmed texts basis = curves3.Trimmed texts basis

@@ -23,7 +23,8 @@ spell_frame f = decimal (wrap_code f.wrap) ∷ f.texts
 abbrev pub spell_form : Form → ℕ → List (List ℕ)
 spell_form (Plain code) knots = decimal code ∷ []
 spell_form (Bezier rational degree) knots = decimal 6 ∷ flag_text rational ∷ decimal degree ∷ []
-spell_form (BSpline rational flag degree poles) knots = decimal 7 ∷ flag_text rational ∷ flag_text flag ∷ decimal degree ∷ decimal poles ∷ decimal knots ∷ []
+spell_form (BSpline rational flag degree poles) knots = decimal 7 ∷ flag_text rational ∷ flag_text flag ∷ decimal degree
+    ∷ decimal poles ∷ decimal knots ∷ []
 
 abbrev pub spell_leaf : Chain → List (List ℕ)
 spell_leaf c = spell_form c.form (length c.knots.texts) ++ (c.texts ++ spell_knots c.knots)

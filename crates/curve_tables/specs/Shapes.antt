@@ -27,7 +27,8 @@ module _ (d : Dimension) where
   abbrev pub CanSpellBezier : Bool → ℕ → List (List ℕ) → Type 0
   CanSpellBezier rational degree poles = AreTexts ((degree + 1) * per_pole d rational) poles
 
-  pub record CanSpellBSpline (rational : Bool) (pole_count : ℕ) (poles knots : List (List ℕ)) (multiplicities : List ℕ) : Type 0 where
+  pub record CanSpellBSpline (rational : Bool) (pole_count : ℕ) (poles knots : List (List ℕ))
+      (multiplicities : List ℕ) : Type 0 where
     pub decimals : AreTexts (pole_count * per_pole d rational) poles
     pub knot_decimals : AreTexts (length multiplicities) knots
 
@@ -40,7 +41,8 @@ abbrev mutual
   pub CanSpell2 : Curve2 → Type 0
   CanSpell2 (two.Plain code texts) = CanSpellPlain Plane code texts
   CanSpell2 (two.Bezier rational degree poles) = CanSpellBezier Plane rational degree poles
-  CanSpell2 (two.BSpline rational flag degree pole_count poles knots multiplicities) = CanSpellBSpline Plane rational pole_count poles knots multiplicities
+  CanSpell2 (two.BSpline rational flag degree pole_count poles knots multiplicities) =
+      CanSpellBSpline Plane rational pole_count poles knots multiplicities
   CanSpell2 (two.Trimmed' texts place basis) = CanSpellWrapped Plane Trimmed texts × CanSpellBasis2 basis
   CanSpell2 (two.Offset' texts place basis) = CanSpellWrapped Plane Offset texts × CanSpellBasis2 basis
 
@@ -54,7 +56,8 @@ abbrev mutual
   pub CanSpell3 : Curve3 → Type 0
   CanSpell3 (three.Plain code texts) = CanSpellPlain Space code texts
   CanSpell3 (three.Bezier rational degree poles) = CanSpellBezier Space rational degree poles
-  CanSpell3 (three.BSpline rational flag degree pole_count poles knots multiplicities) = CanSpellBSpline Space rational pole_count poles knots multiplicities
+  CanSpell3 (three.BSpline rational flag degree pole_count poles knots multiplicities) =
+      CanSpellBSpline Space rational pole_count poles knots multiplicities
   CanSpell3 (three.Trimmed' texts place basis) = CanSpellWrapped Space Trimmed texts × CanSpellBasis3 basis
   CanSpell3 (three.Offset' texts place basis) = CanSpellWrapped Space Offset texts × CanSpellBasis3 basis
 

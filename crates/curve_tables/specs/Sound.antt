@@ -12,7 +12,8 @@ use Rattle.curve_tables.specs.declared.curve2.Curve2 as two
 use Rattle.curve_tables.specs.declared.curve3.Curve3.{Curve3, Row_of-Curve3, end_of-Curve3, more_of-Curve3}
 use Rattle.curve_tables.specs.declared.curve3.Curve3 as three
 
--- ---- a curve whose code stands inside so many others: at most 64 are open, each list is as long as the code, the flags and the
+-- ---- a curve whose code stands inside so many others: at most 64 are open, each list is as long as the code, the
+-- flags and the
 -- counts say, each text is a decimal, and each number has at most 18 digits
 
 module _ (d : Dimension) (nest : ℕ) where
@@ -27,7 +28,8 @@ module _ (d : Dimension) (nest : ℕ) where
     pub small : IsSmall degree
     pub decimals : AreDecimals ((degree + 1) * per_pole d rational) poles
 
-  pub record IsBSpline (rational : Bool) (degree pole_count : ℕ) (poles knots : List (List ℕ)) (multiplicities : List ℕ) : Type 0 where
+  pub record IsBSpline (rational : Bool) (degree pole_count : ℕ) (poles knots : List (List ℕ))
+      (multiplicities : List ℕ) : Type 0 where
     pub nested : nest < 64
     pub small : IsSmall degree
     pub count_small : IsSmall pole_count
@@ -47,7 +49,8 @@ abbrev mutual
   pub IsSoundIn2 : ℕ → Curve2 → Type 0
   IsSoundIn2 nest (two.Plain code texts) = IsPlain Plane nest code texts
   IsSoundIn2 nest (two.Bezier rational degree poles) = IsBezier Plane nest rational degree poles
-  IsSoundIn2 nest (two.BSpline rational flag degree pole_count poles knots multiplicities) = IsBSpline Plane nest rational degree pole_count poles knots multiplicities
+  IsSoundIn2 nest (two.BSpline rational flag degree pole_count poles knots multiplicities) =
+      IsBSpline Plane nest rational degree pole_count poles knots multiplicities
   IsSoundIn2 nest (two.Trimmed' texts place basis) = IsWrapped Plane nest Trimmed texts × IsSoundBasis2 (suc nest) basis
   IsSoundIn2 nest (two.Offset' texts place basis) = IsWrapped Plane nest Offset texts × IsSoundBasis2 (suc nest) basis
 
@@ -65,7 +68,8 @@ abbrev mutual
   pub IsSound3 : ℕ → Curve3 → Type 0
   IsSound3 nest (three.Plain code texts) = IsPlain Space nest code texts
   IsSound3 nest (three.Bezier rational degree poles) = IsBezier Space nest rational degree poles
-  IsSound3 nest (three.BSpline rational flag degree pole_count poles knots multiplicities) = IsBSpline Space nest rational degree pole_count poles knots multiplicities
+  IsSound3 nest (three.BSpline rational flag degree pole_count poles knots multiplicities) =
+      IsBSpline Space nest rational degree pole_count poles knots multiplicities
   IsSound3 nest (three.Trimmed' texts place basis) = IsWrapped Space nest Trimmed texts × IsSoundBasis3 (suc nest) basis
   IsSound3 nest (three.Offset' texts place basis) = IsWrapped Space nest Offset texts × IsSoundBasis3 (suc nest) basis
 

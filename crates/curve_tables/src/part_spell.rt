@@ -1,10 +1,10 @@
 //! The tokens of a curve up to its basis, one after another, in either dimension.
-ghost use Rattle.std.specs.Prelude.{◌≡◌, ◌<◌, ◌∷◌, ◌++◌, [], length};
+ghost use Rattle.std.specs.Prelude.{◌≡◌, ◌<◌, ◌∷◌, length};
 ghost use Rattle.std.specs.Fmt.{decimal};
 ghost use Rattle.brep_tokens.specs.Forms.{flag_text};
-ghost use Rattle.entry_readers.specs.Begins.{zipped};
 ghost use Rattle.entry_readers.specs.Spelled.{AreShort};
 ghost use Rattle.curve_tables.specs.SpellLeft.{CanGivePart, part_left};
+ghost use Rattle.curve_tables.specs.Spelling.{spell_spline};
 
 use brep_tokens::{Decimals, Numbers, TokenText};
 use entry_readers::{DecimalsSpell, HeaderSpell, KnotsSpell};
@@ -64,8 +64,8 @@ pub fn spline<'a>(
     requires poles { AreShort poles.now }
     requires knots { AreShort knots.now }
     requires even { length knots.now ≡ length multiplicities.now }
-    ensures left { part_left result ≡ decimal 7 ∷ flag_text flags.0 ∷ flag_text flags.1
-        ∷ decimal degree ∷ decimal pole_count ∷ decimal (length knots.now) ∷ (poles.now ++ zipped knots.now multiplicities.now) }
+    ensures left { part_left result
+        ≡ spell_spline flags.0 flags.1 degree pole_count poles.now knots.now multiplicities.now }
     ensures can { CanGivePart result }
 {
     let (rational, flag) = flags;

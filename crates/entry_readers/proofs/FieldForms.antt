@@ -1,5 +1,6 @@
 -- A number is one digit or more, and so a decimal.
-use Rattle.std.proofs.Common.{◌≡◌, ◌&&◌, inl, inr, ℕ, Bool, true, false, if◌then◌else◌, nat_le, List, [], ◌∷◌, length, Some, None, refl, sym, append-nil, arith}
+use Rattle.std.proofs.Common.{◌≡◌, ◌&&◌, inl, inr, ℕ, Bool, true, false, if◌then◌else◌, nat_le, List, [], ◌∷◌, length}
+use Rattle.std.proofs.Common.{Some, None, refl, sym, append-nil, arith}
 use Rattle.std.proofs.lemmas.Bool.{eqb-true}
 use Rattle.std.proofs.lemmas.Bool.Decides.{eqb_tells}
 use Rattle.std.proofs.lemmas.List.{nil_from_length}
@@ -21,7 +22,8 @@ numeral_digits : (text : List ℕ) → is_numeral text ≡ true → AreDigits te
 numeral_digits [] is = absurd cc
 numeral_digits (b ∷ bs) is =
     elim (eqb_tells b 48) [
-      | inl e ↦ (let none : bs ≡ [] = nil_from_length bs (eqb-true _ _ (rw e.0 at is)) in rw (e.1, none) (omega arith, refl))
+      | inl e ↦ (let none : bs ≡ [] = nil_from_length bs (eqb-true _ _ (rw e.0 at is)) in
+          rw (e.1, none) (omega arith, refl))
       | inr n ↦ (omega arith, later_true (nat_le (length bs) 17) (list_all is_digit (b ∷ bs)) (rw n.0 at is))
     ]
 
@@ -48,7 +50,9 @@ module _ (forms : FormsAreExact) where
   pub fields_are_decimals : FieldsAreDecimals
   fields_are_decimals = record {
     number = λ n small. (
-        let read : number_of (decimal n) ≡ Some n = (forms.numbers (decimal n) n).1 (record { small = small; spelled = refl }) in
-        of_digits (decimal n) (numeral_digits (decimal n) (some_chosen (is_numeral (decimal n)) (digits_value 10 (decimal n)) n read)));
+        let read : number_of (decimal n) ≡ Some n =
+        (forms.numbers (decimal n) n).1 (record { small = small; spelled = refl }) in
+        of_digits (decimal n) (numeral_digits (decimal n)
+        (some_chosen (is_numeral (decimal n)) (digits_value 10 (decimal n)) n read)));
     flag = flag_decimal;
   }

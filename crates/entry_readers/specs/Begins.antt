@@ -4,7 +4,8 @@ use Rattle.std.specs.List.{AllByRecursion}
 use Rattle.std.specs.Fmt.{decimal}
 use Rattle.brep_tokens.specs.Forms.{is_decimal, flag_text}
 use Rattle.brep_tokens.specs.declared.text.Token.{Token}
-use Rattle.entry_readers.specs.Reading.{Read, Knots, decimal_at, decimals_at, flag_at, knots_at, number_at, numbers_at, ranged_at, word_at}
+use Rattle.entry_readers.specs.Reading.{Read, Knots, decimal_at, decimals_at, flag_at, knots_at, number_at, numbers_at}
+use Rattle.entry_readers.specs.Reading.{ranged_at, word_at}
 
 -- the tokens have these texts, and then others are left
 abbrev pub Begins : List Token → List (List ℕ) → List Token → Type 0
@@ -13,7 +14,8 @@ Begins [] (x ∷ xs) rest = ⊥
 Begins (t ∷ ts) (x ∷ xs) rest = (t.text ≡ x) × Begins ts xs rest
 
 -- What is read is spelled so and fits; what is spelled so and fits is read.
-pub record IsExact {A : Type 0} (read : List Token → Read A) (spelling : A → List (List ℕ)) (Fits : A → Type 0) : Type 0 where
+pub record IsExact {A : Type 0} (read : List Token → Read A) (spelling : A → List (List ℕ)) (Fits : A
+    → Type 0) : Type 0 where
   pub takes : (ts rest : List Token) (x : A) → read ts ≡ Ok (x, rest) → Begins ts (spelling x) rest × Fits x
   pub again : (ts rest : List Token) (x : A) → Begins ts (spelling x) rest → Fits x → read ts ≡ Ok (x, rest)
 
@@ -51,10 +53,13 @@ pub record AreKnots (n : ℕ) (k : Knots) : Type 0 where
   pub texts : AreDecimals n k.texts
   pub counts : (length k.counts ≡ n) × AllByRecursion IsSmall k.counts
 
--- Each field, and repeated ones; and tokens begin with joined texts exactly where they begin with the one, and what is left with the other.
+-- Each field, and repeated ones; and tokens begin with joined texts exactly where they begin with the one, and what is
+-- left with the other.
 pub record FieldsAreExact : Type 0 where
-  pub joined : (ts : List Token) (xs : List (List ℕ)) (mid : List Token) (ys : List (List ℕ)) (rest : List Token) → Begins ts xs mid → Begins mid ys rest → Begins ts (xs ++ ys) rest
-  pub split : (ts : List Token) (xs ys : List (List ℕ)) (rest : List Token) → Begins ts (xs ++ ys) rest → (mid : List Token) × Begins ts xs mid × Begins mid ys rest
+  pub joined : (ts : List Token) (xs : List (List ℕ)) (mid : List Token) (ys : List (List ℕ)) (rest : List Token)
+      → Begins ts xs mid → Begins mid ys rest → Begins ts (xs ++ ys) rest
+  pub split : (ts : List Token) (xs ys : List (List ℕ)) (rest : List Token) → Begins ts (xs ++ ys) rest
+      → (mid : List Token) × Begins ts xs mid × Begins mid ys rest
   pub word : (text : List ℕ) → IsExact (word_at text) (λ _. text ∷ []) (λ _. Unit {0})
   pub texts : IsExact decimal_at (λ x. x ∷ []) IsDecimal
   pub number : IsExact number_at (λ n. decimal n ∷ []) IsSmall

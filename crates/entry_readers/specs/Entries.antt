@@ -12,4 +12,5 @@ module _ {A : Type 0} (read : List Token → Read A) where
 
   -- the same, where one is begun
   abbrev pub entries_left : (List Token → Read A) → List A → ℕ → List Token → Read (List A)
-  entries_left left xs due ts = if due == 0 then Ok (xs, ts) else (left ts >>= λ x. entries_from (xs ++ x.0 ∷ []) (due - 1) x.1)
+  entries_left left xs due ts = if due == 0 then Ok (xs, ts)
+      else (left ts >>= λ x. entries_from (xs ++ x.0 ∷ []) (due - 1) x.1)

@@ -13,10 +13,15 @@ decimals_left r ts = decimals_from r.texts r.due ts
 abbrev pub numbers_left : NumbersDue → List Token → Read (List ℕ)
 numbers_left r ts = numbers_from r.low r.high r.numbers r.due ts
 
+-- the knots that were taken
+abbrev pub knots_of : KnotsDue → Knots
+knots_of r = record { texts = r.texts; counts = r.counts }
+
 -- a number, where its decimal was taken
 abbrev pub half_knot : KnotsDue → ℕ → List Token → Read Knots
-half_knot r zero ts = knots_from (record { texts = r.texts; counts = r.counts }) zero ts
-half_knot r (suc n) ts = number_at ts >>= λ c. knots_from (record { texts = r.texts; counts = r.counts ++ c.0 ∷ [] }) n c.1
+half_knot r zero ts = knots_from (knots_of r) zero ts
+half_knot r (suc n) ts = number_at ts
+    >>= λ c. knots_from (record { texts = r.texts; counts = r.counts ++ c.0 ∷ [] }) n c.1
 
 abbrev pub knots_left : KnotsDue → List Token → Read Knots
-knots_left r ts = if r.half then half_knot r r.due ts else knots_from (record { texts = r.texts; counts = r.counts }) r.due ts
+knots_left r ts = if r.half then half_knot r r.due ts else knots_from (knots_of r) r.due ts

@@ -1,5 +1,6 @@
 -- Reading the tokens at the front of a list: a value and the tokens after it, or why there is none.
-use Rattle.std.specs.Prelude.{ℕ, zero, suc, ◌&&◌, nat_le, nat_eq, Bool, if◌then◌else◌, List, [], ◌∷◌, ◌++◌, Option, Some, None, Result, Ok, Err}
+use Rattle.std.specs.Prelude.{ℕ, zero, suc, ◌&&◌, nat_le, nat_eq, Bool, if◌then◌else◌, List, [], ◌∷◌, ◌++◌, Option}
+use Rattle.std.specs.Prelude.{Some, None, Result, Ok, Err}
 use Rattle.std.specs.Cmp.Lexicographic.{pointwise}
 use Rattle.lists.specs.Results.{◌>>=◌}
 use Rattle.brep_tokens.specs.Forms.{is_decimal, number_of, flag_of}
@@ -52,7 +53,8 @@ flag_at (t ∷ ts) = spelled codes.FlagExpected t ts (flag_of t.text)
 
 -- the number of this token, where it is from `low` to `high`
 abbrev pub in_range : ℕ → ℕ → Token → ℕ × List Token → Read ℕ
-in_range low high t n = if nat_le low n.0 && nat_le n.0 high then Ok n else Err (fault (at_token codes.IndexOutOfRange n.0 high t))
+in_range low high t n = if nat_le low n.0 && nat_le n.0 high then Ok n
+    else Err (fault (at_token codes.IndexOutOfRange n.0 high t))
 
 -- a number from `low` to `high`: that of an entry, a node or a record
 abbrev pub ranged_at : ℕ → ℕ → List Token → Read ℕ
@@ -70,7 +72,8 @@ decimals_at n ts = decimals_from [] n ts
 
 abbrev pub numbers_from : ℕ → ℕ → List ℕ → ℕ → List Token → Read (List ℕ)
 numbers_from low high numbers zero ts = Ok (numbers, ts)
-numbers_from low high numbers (suc n) ts = ranged_at low high ts >>= λ d. numbers_from low high (numbers ++ d.0 ∷ []) n d.1
+numbers_from low high numbers (suc n) ts = ranged_at low high ts
+    >>= λ d. numbers_from low high (numbers ++ d.0 ∷ []) n d.1
 
 abbrev pub numbers_at : ℕ → ℕ → ℕ → List Token → Read (List ℕ)
 numbers_at low high n ts = numbers_from low high [] n ts

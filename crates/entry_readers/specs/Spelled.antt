@@ -31,7 +31,8 @@ count_then [] (n ∷ ns) = []
 count_then (x ∷ xs) (n ∷ ns) = decimal n ∷ zipped xs ns
 
 abbrev pub pairs_left : KnotsSpell → List (List ℕ)
-pairs_left s = if s.half then count_then (drop s.at s.texts.now) (drop s.at s.counts.now) else zipped (drop s.at s.texts.now) (drop s.at s.counts.now)
+pairs_left s = if s.half then count_then (drop s.at s.texts.now) (drop s.at s.counts.now)
+    else zipped (drop s.at s.texts.now) (drop s.at s.counts.now)
 
 pub record CanPair (s : KnotsSpell) : Type 0 where
   pub even : length s.texts.now ≡ length s.counts.now

@@ -1,8 +1,7 @@
 //! So many decimals are due, each with a number after it.
-ghost use Rattle.std.specs.Prelude.{◌≡◌, ◌<◌, [], false, IsTrue, MatchBool, List, Ok};
-ghost use Rattle.entry_readers.specs.Takes.{StepsOn};
-ghost use Rattle.brep_tokens.specs.declared.text.Token.{Token};
-ghost use Rattle.entry_readers.specs.Left.{knots_left};
+ghost use Rattle.std.specs.Prelude.{◌≡◌, ◌<◌, [], false, IsTrue, MatchBool};
+ghost use Rattle.entry_readers.specs.Takes.{HasRead, StepsOn};
+ghost use Rattle.entry_readers.specs.Left.{knots_left, knots_of};
 
 use crate::due::{decimal_due, number_due};
 use brep_tokens::{Decimals, Numbers, ReadStop, Token};
@@ -36,7 +35,7 @@ impl KnotsDue {
     /// Is none due any more?
     pub fn is_done(&self) -> bool
         ensures due { MatchBool result (self.now.due ≡ 0) (0 < self.now.due) }
-        ensures whole { IsTrue result → (ts : List Token) → knots_left self.now ts ≡ Ok (record { texts = self.now.texts; counts = self.now.counts }, ts) }
+        ensures whole { IsTrue result → HasRead (knots_left self.now) (knots_of self.now) }
     {
         self.due == 0
     }

@@ -1,5 +1,5 @@
-//! What the readers of table entries share: what it means to read tokens one by one, the fields that entries are made of, their
-//! spelling, and sections of entries.
+//! What the readers of table entries share: what it means to read tokens one by one, the fields that entries are made
+//! of, their spelling, and sections of entries.
 #![tactic(auto)]
 
 mod decimals_due;

@@ -1,9 +1,8 @@
 //! A section: so many entries of one kind.
-ghost use Rattle.std.specs.Prelude.{◌≡◌, ◌<◌, List, [], ◌∷◌, ◌++◌, Ok, Err, OnOk};
-ghost use Rattle.brep_tokens.specs.declared.text.Token.{Token};
+ghost use Rattle.std.specs.Prelude.{◌≡◌, ◌<◌, [], ◌∷◌, ◌++◌, Err, OnOk};
 ghost use Rattle.entry_readers.specs.Entries.{entries_from, entries_left};
 ghost use Rattle.entry_readers.specs.Reading.{more};
-ghost use Rattle.entry_readers.specs.Takes.{Takes};
+ghost use Rattle.entry_readers.specs.Takes.{HasRead, ReadsAs, Takes};
 
 use crate::entry::EntryReader;
 use brep_tokens::{Progress, ReadStop, Token};
@@ -30,7 +29,8 @@ impl<R: EntryReader> Section<R> {
     /// No token was taken yet.
     pub fn new(alloc: Global, due: u64) -> Section<R>
         requires { 0 < due }
-        ensures left { (ts : List Token) → entries_left R.read (R.left result.reader) result.entries.items result.due ts ≡ entries_from R.read [] due ts }
+        ensures left { ReadsAs (entries_left R.read (R.left result.reader) result.entries.items result.due)
+            (entries_from R.read [] due) }
         ensures waits { (0 < result.due) × R.waits result.reader }
         ensures open { entries_left R.read (R.left result.reader) result.entries.items result.due [] ≡ Err more }
     {
@@ -73,7 +73,7 @@ impl<R: EntryReader> Section<R> {
     /// The entries.
     pub fn done(self) -> Vec<R::Entry>
         requires { self.due ≡ 0 }
-        ensures { (rest : List Token) → entries_left R.read (R.left self.reader) self.entries.items self.due rest ≡ Ok (result.items, rest) }
+        ensures { HasRead (entries_left R.read (R.left self.reader) self.entries.items self.due) result.items }
     {
         self.entries
     }

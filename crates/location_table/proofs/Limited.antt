@@ -14,18 +14,22 @@ use Rattle.entry_readers.specs.Reading.{at_token}
 use Rattle.location_table.specs.Locations.{limit_fault}
 use Rattle.location_table.specs.Stops.{stop_of, IsDueStop}
 
-pub many : (w v : List Pair) (p : ℤ) → has_many_factors v p ≡ true → passed w v p ≡ Some (record { value = nat_abs p; limit = most_factors })
+pub many : (w v : List Pair) (p : ℤ) → has_many_factors v p ≡ true
+    → passed w v p ≡ Some (record { value = nat_abs p; limit = most_factors })
 many w v p e = rw e refl
 
-pub few : (w v : List Pair) (p : ℤ) → has_many_factors v p ≡ false → passed w v p ≡ option_map limit_of (option_or (fault_of_power v p) (fault_of (mul (power v p) w)))
+pub few : (w v : List Pair) (p : ℤ) → has_many_factors v p ≡ false
+    → passed w v p ≡ option_map limit_of (option_or (fault_of_power v p) (fault_of (mul (power v p) w)))
 few w v p e = rw e refl
 
-pub stops : (t : Token) (due : Option WordFault) (fault : WordFault) → IsDueFault due fault → IsDueStop t (option_map limit_of due) (stop_of t fault)
+pub stops : (t : Token) (due : Option WordFault) (fault : WordFault) → IsDueFault due fault
+    → IsDueStop t (option_map limit_of due) (stop_of t fault)
 stops t due (Pairs n) e = (limit_of (Pairs n), ap (option_map limit_of) e, refl)
 stops t due (Power n) e = (limit_of (Power n), ap (option_map limit_of) e, refl)
 stops t due NoMemory e = tt
 
-pub limit_small : (t : Token) (n limit : ℕ) → n < 2 ^ 64 → at_token codes.WordLimit n limit t ≡ limit_fault t (record { value = n; limit = limit })
+pub limit_small : (t : Token) (n limit : ℕ) → n < 2 ^ 64
+    → at_token codes.WordLimit n limit t ≡ limit_fault t (record { value = n; limit = limit })
 limit_small t n limit lt =
     let e : n ≡ min n (2 ^ 64 - 1) = omega (arith, lt) in
     ap (λ m. at_token codes.WordLimit m limit t) e

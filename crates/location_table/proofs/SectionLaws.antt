@@ -1,5 +1,6 @@
 -- The section, entry by entry.
-use Rattle.std.proofs.Common.{◌≡◌, ℕ, zero, suc, ◌-◌, ◌<◌, ◌==◌, false, List, [], ◌∷◌, ◌++◌, length, Ok, Err, refl, sym, ap, ◌∙◌, append_assoc, append-nil, arith}
+use Rattle.std.proofs.Common.{◌≡◌, ℕ, zero, suc, ◌-◌, ◌<◌, ◌==◌, false, List, [], ◌∷◌, ◌++◌, length, Ok, Err, refl, sym}
+use Rattle.std.proofs.Common.{ap, ◌∙◌, append_assoc, append-nil, arith}
 use Rattle.std.proofs.lemmas.Bool.Decides.{nat_tests}
 use Rattle.brep_tokens.specs.declared.text.Token.{Token}
 use Rattle.lists.specs.Results.{◌>>=◌}
@@ -14,21 +15,27 @@ use Rattle.location_table.specs.Laws.{LocationsAreExact}
 not_done : (n : ℕ) → 0 < n → (n == 0) ≡ false
 not_done n lt = grind (arith, nat_tests)
 
-step : (before : List LocationEntry) (n : ℕ) (ts : List Token) → 0 < n → locations_from before n ts ≡ (location_at before ts >>= λ e. locations_from (before ++ e.0 ∷ []) (n - 1) e.1)
+step : (before : List LocationEntry) (n : ℕ) (ts : List Token) → 0 < n
+    → locations_from before n ts ≡ (location_at before ts >>= λ e. locations_from (before ++ e.0 ∷ []) (n - 1) e.1)
 step before zero ts lt = absurd (omega (arith, lt))
 step before (suc n) ts lt =
     let e : suc n - 1 ≡ n = omega arith in
     rw e refl
 
 -- an entry is whole
-pub moved : (left : List Token → Read LocationEntry) (before : List LocationEntry) (n : ℕ) → 0 < n → (x : LocationEntry) (ts rest : List Token) → left ts ≡ Ok (x, rest) → begun_from left before n ts ≡ locations_from (before ++ x ∷ []) (n - 1) rest
+pub moved : (left : List Token → Read LocationEntry) (before : List LocationEntry) (n : ℕ) → 0 < n
+    → (x : LocationEntry) (ts rest : List Token) → left ts ≡ Ok (x, rest)
+    → begun_from left before n ts ≡ locations_from (before ++ x ∷ []) (n - 1) rest
 moved left before n lt x ts rest e = rw (not_done n lt, e) refl
 
 -- the next one isn't begun
-pub fresh : (left : List Token → Read LocationEntry) (before : List LocationEntry) (n : ℕ) → 0 < n → ((ts : List Token) → left ts ≡ location_at before ts) → (ts : List Token) → begun_from left before n ts ≡ locations_from before n ts
+pub fresh : (left : List Token → Read LocationEntry) (before : List LocationEntry) (n : ℕ) → 0 < n
+    → ((ts : List Token) → left ts ≡ location_at before ts) → (ts : List Token)
+    → begun_from left before n ts ≡ locations_from before n ts
 fresh left before n lt new ts = rw (not_done n lt, new ts, step before n ts lt) refl
 
-pub fresh_open : (left : List Token → Read LocationEntry) (before : List LocationEntry) (n : ℕ) → 0 < n → left [] ≡ Err more → begun_from left before n [] ≡ Err more
+pub fresh_open : (left : List Token → Read LocationEntry) (before : List LocationEntry) (n : ℕ) → 0 < n
+    → left [] ≡ Err more → begun_from left before n [] ≡ Err more
 fresh_open left before n lt e = rw (not_done n lt, e) refl
 
 module _ (fields : FieldsAreExact) (exact : LocationsAreExact) where
@@ -39,7 +46,8 @@ module _ (fields : FieldsAreExact) (exact : LocationsAreExact) where
     many : length new ≡ n
     sound : AreSoundAfter before new
 
-  takes : (before : List LocationEntry) (n : ℕ) (ts rest : List Token) (all : List LocationEntry) → locations_from before n ts ≡ Ok (all, rest) → New before n ts rest all
+  takes : (before : List LocationEntry) (n : ℕ) (ts rest : List Token) (all : List LocationEntry)
+      → locations_from before n ts ≡ Ok (all, rest) → New before n ts rest all
   takes before zero ts rest all e =
       let p = ok_is (before, ts) (all, rest) e in
       record {
@@ -61,7 +69,8 @@ module _ (fields : FieldsAreExact) (exact : LocationsAreExact) where
         sound = (one.1, others.sound);
       }
 
-  again : (before new : List LocationEntry) (ts rest : List Token) → Begins ts (spell_locations new) rest → AreSoundAfter before new → locations_from before (length new) ts ≡ Ok (before ++ new, rest)
+  again : (before new : List LocationEntry) (ts rest : List Token) → Begins ts (spell_locations new) rest
+      → AreSoundAfter before new → locations_from before (length new) ts ≡ Ok (before ++ new, rest)
   again before [] ts rest b sound = rw (b, append-nil before) refl
   again before (x ∷ new) ts rest b sound =
       let s = fields.split ts (spell_location x) (spell_locations new) rest b in

@@ -14,7 +14,8 @@ CanAdd before (Product factors) = AreWithin (length before) (words_of before) []
 abbrev pub most_entries : ℕ
 most_entries = 4294967295
 
-pub record IsSection (identity : List Pair) (entries : List LocationEntry) (words : List (List Pair)) (places : List ℕ) : Type 0 where
+pub record IsSection (identity : List Pair) (entries : List LocationEntry) (words : List (List Pair))
+    (places : List ℕ) : Type 0 where
   pub none : identity ≡ []
   pub few : length entries ≤ most_entries
   pub words_are : [] ∷ words ≡ words_of entries

@@ -1,9 +1,12 @@
 -- What the reader of a location has still to read.
-use Rattle.std.specs.Prelude.{◌≡◌, ◌≤◌, ◌<◌, List, [], length, Ok}
+use Rattle.std.specs.Prelude.{◌≡◌, ◌≤◌, ◌<◌, List, [], length, Ok, Result}
 use Rattle.brep_tokens.specs.declared.text.Token.{Token}
+use Rattle.brep_tokens.specs.declared.fault.Progress.{Progress}
+use Rattle.brep_tokens.specs.declared.fault.ReadStop.{ReadStop}
 use Rattle.lists.specs.Results.{◌>>=◌}
 use Rattle.entry_readers.specs.Reading.{Read}
 use Rattle.entry_readers.specs.Left.{decimals_left}
+use Rattle.entry_readers.specs.Takes.{Takes}
 use Rattle.location_table.specs.declared.entry.LocationEntry.{LocationEntry}
 use Rattle.location_table.specs.declared.entry.LocationEntry.TheVariants.{Datum, Product}
 use Rattle.location_table.specs.declared.reader.Stage.{Stage}
@@ -16,8 +19,10 @@ use Rattle.location_table.specs.Locations.{location_at, factors_from, power_from
 abbrev pub at_stage : Stage → List LocationEntry → LocationReader → List Token → Read LocationEntry
 at_stage stages.Code before r ts = location_at before ts
 at_stage stages.Decimals before r ts = decimals_left r.texts ts >>= λ d. Ok (Datum d.0, d.1)
-at_stage stages.Place before r ts = factors_from (length before) (words_of before) r.factors ts >>= λ f. Ok (Product f.0, f.1)
-at_stage (stages.Power place) before r ts = power_from (length before) (words_of before) r.factors place ts >>= λ f. Ok (Product f.0, f.1)
+at_stage stages.Place before r ts = factors_from (length before) (words_of before) r.factors ts
+    >>= λ f. Ok (Product f.0, f.1)
+at_stage (stages.Power place) before r ts = power_from (length before) (words_of before) r.factors place ts
+    >>= λ f. Ok (Product f.0, f.1)
 at_stage stages.WholeDatum before r ts = Ok (Datum r.texts.texts, ts)
 at_stage stages.WholeProduct before r ts = Ok (Product r.factors, ts)
 
@@ -56,6 +61,16 @@ done_at stages.WholeProduct before r = HoldsFactors before r
 -- the entry is whole, and it was read after these entries
 abbrev pub IsDone : List LocationEntry → LocationReader → Type 0
 IsDone before r = done_at r.stage before r
+
+-- A reader of an entry, at a stage, took a token after these entries: it waits for more, or the entry is whole.
+abbrev pub TakesAt : Stage → List LocationEntry → LocationReader → Token → LocationReader
+    → Result Progress ReadStop → Type 0
+TakesAt stage before old t new result =
+    Takes (at_stage stage before old) t (location_left before new) (IsWaiting before new) (IsDone before new) result
+
+-- the same at the stage where it is
+abbrev pub TakesEntry : List LocationEntry → LocationReader → Token → LocationReader → Result Progress ReadStop → Type 0
+TakesEntry before old t new result = TakesAt old.stage before old t new result
 
 abbrev pub whole_at : Stage → Type 0
 whole_at stages.Code = ⊥

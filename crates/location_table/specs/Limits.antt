@@ -1,5 +1,6 @@
 -- The limits of a location record: they are tested at each power.
-use Rattle.std.specs.Prelude.{◌≡◌, ◌≤◌, ◌⊎◌, ◌&&◌, nat_lt, nat_abs, ℕ, ℤ, Bool, if◌then◌else◌, List, [], ◌∷◌, length, Option, Some, None}
+use Rattle.std.specs.Prelude.{◌≡◌, ◌≤◌, ◌⊎◌, ◌&&◌, nat_lt, nat_abs, ℕ, ℤ, Bool, if◌then◌else◌, List, [], ◌∷◌, length}
+use Rattle.std.specs.Prelude.{Option, Some, None}
 use Rattle.std.specs.Option.{option_map, option_or}
 use Rattle.location_words.specs.declared.pair.Pair.{Pair}
 use Rattle.location_words.specs.declared.fault.WordFault.{WordFault}
@@ -28,15 +29,23 @@ limit_of NoMemory = record { value = 0; limit = 0 }
 abbrev pub has_many_factors : List Pair → ℤ → Bool
 has_many_factors v p = nat_lt 1 (length v) && nat_lt most_factors (nat_abs p)
 
--- The limit that is passed first where the word `w` so far gets the factor `v` to the power `p`: the number of factors of a word of
--- more than one pair; then the power, for such a word each product of its first factors; then the word so far with the factor.
+-- the fault of the word `w` so far with the factor `v` to the power `p`: that of the power, and then that of the longer
+-- word
+abbrev pub factor_fault : List Pair → List Pair → ℤ → Option WordFault
+factor_fault w v p = option_or (fault_of_power v p) (fault_of (mul (power v p) w))
+
+-- The limit that is passed first where the word `w` so far gets the factor `v` to the power `p`: the number of factors
+-- of a word of
+-- more than one pair; then the power, for such a word each product of its first factors; then the word so far with the
+-- factor.
 abbrev pub passed : List Pair → List Pair → ℤ → Option Passed
 passed w v p =
     if has_many_factors v p
     then Some (record { value = nat_abs p; limit = most_factors })
-    else option_map limit_of (option_or (fault_of_power v p) (fault_of (mul (power v p) w)))
+    else option_map limit_of (factor_fault w v p)
 
--- a factor of an earlier place that passes no limit after the word `w`, where so many entries stand before, with these words
+-- a factor of an earlier place that passes no limit after the word `w`, where so many entries stand before, with these
+-- words
 pub record IsWithin (count : ℕ) (words : List (List Pair)) (w : List Pair) (f : Factor) : Type 0 where
   pub from : 1 ≤ f.place
   pub earlier : f.place ≤ count

@@ -1,5 +1,6 @@
 -- The section `Locations`: how an entry is spelled, which entries are sound, and how tokens are read as an entry.
-use Rattle.std.specs.Prelude.{◌<◌, ◌-◌, ◌^◌, ◌==◌, ◌||◌, nat_abs, min, ℕ, ℤ, if◌then◌else◌, List, [], ◌∷◌, ◌++◌, length, Option, Some, None, Ok, Err}
+use Rattle.std.specs.Prelude.{◌<◌, ◌-◌, ◌^◌, ◌==◌, ◌||◌, nat_abs, min, ℕ, ℤ, if◌then◌else◌, List, [], ◌∷◌, ◌++◌, length}
+use Rattle.std.specs.Prelude.{Option, Some, None, Ok, Err}
 use Rattle.std.specs.List.{AllByRecursion, flat_map}
 use Rattle.std.specs.Fmt.{decimal, signed_decimal}
 use Rattle.brep_tokens.specs.Forms.{power_of}
@@ -35,10 +36,12 @@ spell_location (Product factors) = decimal 2 ∷ (flat_map spell_factor factors 
 abbrev pub HasForm : Factor → Type 0
 HasForm f = (f.place < 10 ^ 18) × (nat_abs f.power < 10 ^ 18)
 
--- after these entries: a datum has twelve decimals; a product has powers of earlier places, within the limits after each factor
+-- after these entries: a datum has twelve decimals; a product has powers of earlier places, within the limits after
+-- each factor
 abbrev pub IsSoundLocation : List LocationEntry → LocationEntry → Type 0
 IsSoundLocation before (Datum texts) = AreDecimals 12 texts
-IsSoundLocation before (Product factors) = AreWithin (length before) (words_of before) [] factors × AllByRecursion HasForm factors
+IsSoundLocation before (Product factors) = AreWithin (length before) (words_of before) [] factors
+    × AllByRecursion HasForm factors
 
 abbrev pub AreSoundAfter : List LocationEntry → List LocationEntry → Type 0
 AreSoundAfter before [] = Unit {0}
@@ -53,7 +56,8 @@ AreSoundLocations entries = AreSoundAfter [] entries
 -- `1` for a datum or `2` for a product
 abbrev pub code_at : List Token → Read ℕ
 code_at [] = Err more
-code_at (t ∷ ts) = number_at (t ∷ ts) >>= λ n. if (n.0 == 1) || (n.0 == 2) then Ok n else Err (fault (at_token codes.UnknownCode n.0 0 t))
+code_at (t ∷ ts) = number_at (t ∷ ts) >>= λ n. if (n.0 == 1) || (n.0 == 2) then Ok n
+    else Err (fault (at_token codes.UnknownCode n.0 0 t))
 
 -- a power of at most 18 digits
 abbrev pub signed_at : List Token → Read ℤ
@@ -78,12 +82,14 @@ abbrev mutual
   pub factors_from : ℕ → List (List Pair) → List Factor → List Token → Read (List Factor)
   factors_from count words factors [] = Err more
   factors_from count words factors (t ∷ ts) =
-      ranged_at 0 count (t ∷ ts) >>= λ place. if place.0 == 0 then Ok (factors, ts) else power_from count words factors place.0 ts
+      ranged_at 0 count (t ∷ ts) >>= λ place. if place.0 == 0 then Ok (factors, ts)
+      else power_from count words factors place.0 ts
 
   pub power_from : ℕ → List (List Pair) → List Factor → ℕ → List Token → Read (List Factor)
   power_from count words factors place [] = Err more
   power_from count words factors place (t ∷ ts) =
-      power_at (word_of_factors words factors) (at_place words place) (t ∷ ts) >>= λ p. factors_from count words (factors ++ factor place p.0 ∷ []) ts
+      power_at (word_of_factors words factors) (at_place words place) (t ∷ ts) >>= λ p. factors_from count words
+      (factors ++ factor place p.0 ∷ []) ts
 
 abbrev pub datum_at : List Token → Read LocationEntry
 datum_at ts = decimals_at 12 ts >>= λ d. Ok (Datum d.0, d.1)

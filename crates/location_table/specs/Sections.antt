@@ -17,8 +17,10 @@ abbrev pub locations_at : ℕ → List Token → Read (List LocationEntry)
 locations_at n ts = locations_from [] n ts
 
 -- the same, where the next entry is begun
-abbrev pub begun_from : (List Token → Read LocationEntry) → List LocationEntry → ℕ → List Token → Read (List LocationEntry)
-begun_from left before due ts = if due == 0 then Ok (before, ts) else (left ts >>= λ e. locations_from (before ++ e.0 ∷ []) (due - 1) e.1)
+abbrev pub begun_from : (List Token → Read LocationEntry) → List LocationEntry → ℕ → List Token
+    → Read (List LocationEntry)
+begun_from left before due ts = if due == 0 then Ok (before, ts)
+    else (left ts >>= λ e. locations_from (before ++ e.0 ∷ []) (due - 1) e.1)
 
 abbrev pub spell_locations : List LocationEntry → List (List ℕ)
 spell_locations entries = flat_map spell_location entries

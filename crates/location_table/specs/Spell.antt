@@ -27,7 +27,8 @@ after_place [] = []
 after_place (f ∷ fs) = signed_decimal f.power ∷ spell_factors fs
 
 abbrev pub factors_left : FactorsSpell → List (List ℕ)
-factors_left s = if s.ended then [] else (if s.half then after_place (drop s.at s.factors.now) else spell_factors (drop s.at s.factors.now))
+factors_left s = if s.ended then [] else (if s.half then after_place (drop s.at s.factors.now)
+    else spell_factors (drop s.at s.factors.now))
 
 abbrev pub rest_left : SpellRest → List (List ℕ)
 rest_left (rests.Texts s) = texts_left s

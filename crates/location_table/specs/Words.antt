@@ -29,7 +29,8 @@ pub record Places : Type 0 where
 abbrev pub identity_alone : Places
 identity_alone = record { words = [] ∷ []; datums = 0 }
 
--- An entry takes the next place: a datum also the next number of datums, whatever its decimals, and a product the word of its factors.
+-- An entry takes the next place: a datum also the next number of datums, whatever its decimals, and a product the word
+-- of its factors.
 abbrev pub with_entry : Places → LocationEntry → Places
 with_entry p (Datum texts) = record { words = p.words ++ datum_word (p.datums + 1) ∷ []; datums = p.datums + 1 }
 with_entry p (Product factors) = record { words = p.words ++ word_of_factors p.words factors ∷ []; datums = p.datums }

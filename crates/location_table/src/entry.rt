@@ -16,7 +16,8 @@ pub type Factors = ListOf<Factor>;
 /// An entry of the section `Locations`.
 #[derive(Drop)]
 pub enum LocationEntry {
-    /// An elementary transformation (record kind 1): the twelve decimals of its three rows of four, as they are spelled.
+    /// An elementary transformation (record kind 1): the twelve decimals of its three rows of four, as they are
+    /// spelled.
     Datum(Decimals),
     /// A product of powers of earlier locations (record kind 2). A later factor is applied after an earlier one.
     Product(Factors),

@@ -1,5 +1,5 @@
-//! The section `Locations` of a BREP file: elementary transformations and products of their powers, read token by token, held with
-//! the word of each place, and spelled again.
+//! The section `Locations` of a BREP file: elementary transformations and products of their powers, read token by
+//! token, held with the word of each place, and spelled again.
 #![tactic(auto)]
 
 mod entry;

@@ -1,10 +1,9 @@
 //! The limits that are tested at the power of a factor.
 ghost use Rattle.std.specs.Prelude.{◌≡◌, ◌≤◌, ◌⊎◌, ◌-◌, ◌^◌, min, length, nat_abs, None, IfErr, IfOk, OnOk};
-ghost use Rattle.std.specs.Option.{option_or};
 ghost use Rattle.entry_readers.specs.Takes.{Answers};
 ghost use Rattle.location_words.specs.Pairs.{mul as mul_of, power as power_of};
 ghost use Rattle.location_words.specs.Faults.{fault_of, fault_of_power, IsDueFault};
-ghost use Rattle.location_table.specs.Limits.{has_many_factors, passed};
+ghost use Rattle.location_table.specs.Limits.{factor_fault, has_many_factors, passed};
 ghost use Rattle.location_table.specs.Locations.{signed_at};
 ghost use Rattle.location_table.specs.Stops.{stop_of, IsDueStop};
 
@@ -60,7 +59,7 @@ pub(crate) fn factor_onto(so_far: &Word, v: &Word, p: i64) -> Result<Word, WordF
     ensures ok { IfOk result (λ w. w ≡ mul_of (power_of v.now p) so_far.now) }
     ensures power { OnOk result (fault_of_power v.now p ≡ None) }
     ensures word { OnOk result (fault_of (mul_of (power_of v.now p) so_far.now) ≡ None) }
-    ensures refused { IfErr result (λ fault. IsDueFault (option_or (fault_of_power v.now p) (fault_of (mul_of (power_of v.now p) so_far.now))) fault) }
+    ensures refused { IfErr result (λ fault. IsDueFault (factor_fault so_far.now v.now p) fault) }
 {
     let factor = power(v, p)?;
     mul(&factor, so_far)

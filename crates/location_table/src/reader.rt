@@ -2,11 +2,12 @@
 ghost use Rattle.std.specs.Prelude.{◌≡◌, ◌≤◌, ◌<◌, List, [], ◌∷◌, ◌++◌, ◌⊎◌, length, Ok, Err, IfOk, OnErr, OnOk};
 ghost use Rattle.brep_tokens.specs.declared.text.Token.{Token};
 ghost use Rattle.entry_readers.specs.Reading.{more};
-ghost use Rattle.entry_readers.specs.Takes.{Answers, Takes};
+ghost use Rattle.entry_readers.specs.Takes.{Answers, HasRead, ReadsAs};
 ghost use Rattle.location_table.specs.declared.entry.LocationEntry.{LocationEntry};
 ghost use Rattle.location_table.specs.declared.reader.Stage.TheVariants as stages;
 ghost use Rattle.location_table.specs.Held.{CanAdd, most_entries};
-ghost use Rattle.location_table.specs.Left.{at_stage, entry_of, location_left, waits_at, HoldsFactors, IsDone, IsFresh, IsWaiting, IsWhole};
+ghost use Rattle.location_table.specs.Left.{entry_of, location_left, HoldsFactors, IsDone, IsFresh, IsWaiting, IsWhole};
+ghost use Rattle.location_table.specs.Left.{TakesAt, TakesEntry};
 ghost use Rattle.location_table.specs.Locations.{code_at, location_at, signed_at};
 
 use crate::entry::{Factor, Factors, LocationEntry};
@@ -57,7 +58,7 @@ fn code_due(t: &Token) -> Result<u64, ReadFault>
 impl LocationReader {
     /// No token was taken yet.
     pub fn new(alloc: Global) -> LocationReader
-        ensures left { (before : List LocationEntry) (ts : List Token) → location_left before result ts ≡ location_at before ts }
+        ensures left { (before : List LocationEntry) → ReadsAs (location_left before result) (location_at before) }
         ensures waits { (before : List LocationEntry) → IsWaiting before result }
         ensures open { (before : List LocationEntry) → location_left before result [] ≡ Err more }
     {
@@ -71,10 +72,11 @@ impl LocationReader {
 
     /// Takes a token. `before` is the section read so far, the same for each token of the entry.
     ///
-    /// A place is a number from 1 to the number of entries before, or 0 for the end. A power is tested against the limits of words.
+    /// A place is a number from 1 to the number of entries before, or 0 for the end. A power is tested against the
+    /// limits of words.
     pub fn take(&mut self, t: &Token, before: &Locations) -> Result<Progress, ReadStop>
         requires { IsWaiting before.now self.old }
-        ensures { Takes (location_left before.now self.old) t.now (location_left before.now self.new) (IsWaiting before.now self.new) (IsDone before.now self.new) result }
+        ensures { TakesEntry before.now self.old t.now self.new result }
     {
         match self.stage {
             Stage::Code => self.take_code(t),
@@ -87,7 +89,7 @@ impl LocationReader {
 
     fn take_code(&mut self, t: &Token) -> Result<Progress, ReadStop>
         requires { IsFresh self.old }
-        ensures { (before : List LocationEntry) → Takes (at_stage stages.Code before self.old) t.now (location_left before self.new) (IsWaiting before self.new) (IsDone before self.new) result }
+        ensures { (before : List LocationEntry) → TakesAt stages.Code before self.old t.now self.new result }
     {
         match code_due(t) {
             Err(f) => Err(ReadStop::Fault(f)),
@@ -104,7 +106,7 @@ impl LocationReader {
 
     fn take_decimal(&mut self, t: &Token) -> Result<Progress, ReadStop>
         requires { 0 < self.old.texts.due }
-        ensures { (before : List LocationEntry) → Takes (at_stage stages.Decimals before self.old) t.now (location_left before self.new) (IsWaiting before self.new) (IsDone before self.new) result }
+        ensures { (before : List LocationEntry) → TakesAt stages.Decimals before self.old t.now self.new result }
     {
         match self.texts.take(t) {
             Err(e) => Err(e),
@@ -122,7 +124,7 @@ impl LocationReader {
 
     fn take_place(&mut self, t: &Token, before: &Locations) -> Result<Progress, ReadStop>
         requires { HoldsFactors before.now self.old }
-        ensures { Takes (at_stage stages.Place before.now self.old) t.now (location_left before.now self.new) (IsWaiting before.now self.new) (IsDone before.now self.new) result }
+        ensures { TakesAt stages.Place before.now self.old t.now self.new result }
     {
         match ranged_due(0, u64::from(before.len()), t) {
             Err(f) => Err(ReadStop::Fault(f)),
@@ -147,7 +149,7 @@ impl LocationReader {
         requires holds { HoldsFactors before.now self.old }
         requires from { 1 ≤ place }
         requires earlier { place ≤ length before.now }
-        ensures { Takes (at_stage (stages.Power place) before.now self.old) t.now (location_left before.now self.new) (IsWaiting before.now self.new) (IsDone before.now self.new) result }
+        ensures { TakesAt (stages.Power place) before.now self.old t.now self.new result }
     {
         match power_due(t) {
             Err(f) => Err(ReadStop::Fault(f)),
@@ -167,7 +169,7 @@ impl LocationReader {
         requires holds { HoldsFactors before.now self.old }
         requires from { 1 ≤ place }
         requires earlier { place ≤ length before.now }
-        ensures { Takes (at_stage (stages.Power place) before.now self.old) t.now (location_left before.now self.new) (IsWaiting before.now self.new) (IsDone before.now self.new) result }
+        ensures { TakesAt (stages.Power place) before.now self.old t.now self.new result }
     {
         match factor_at(&self.word, before.word(place), power, t) {
             Err(stop) => Err(stop),
@@ -186,7 +188,7 @@ impl LocationReader {
     pub fn done(self) -> LocationEntry
         requires { IsWhole self }
         ensures entry { result ≡ entry_of self }
-        ensures read { (before : List LocationEntry) (rest : List Token) → location_left before self rest ≡ Ok (result, rest) }
+        ensures read { (before : List LocationEntry) → HasRead (location_left before self) result }
         ensures can_add { (before : List LocationEntry) → IsDone before self → CanAdd before result }
     {
         let LocationReader {
@@ -201,11 +203,12 @@ impl LocationReader {
         }
     }
 
-    /// Appends the entry to the section that it was read after. Its word is the one that was multiplied out while it was read.
+    /// Appends the entry to the section that it was read after. Its word is the one that was multiplied out while it
+    /// was read.
     pub fn add_to(self, section: &mut Locations) -> Result<(), AllocError>
         requires done { IsDone section.old self }
         requires room { length section.old < most_entries }
-        ensures read { (rest : List Token) → location_left section.old self rest ≡ Ok (entry_of self, rest) }
+        ensures read { HasRead (location_left section.old self) (entry_of self) }
         ensures ok { OnOk result (section.new ≡ section.old ++ entry_of self ∷ []) }
         ensures err { OnErr result (section.new ≡ section.old) }
     {

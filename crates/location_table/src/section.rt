@@ -1,10 +1,12 @@
 //! The section `Locations`, with the word of each place.
-ghost use Rattle.std.specs.Prelude.{◌≡◌, ◌≤◌, ◌<◌, ◌-◌, ◌↔◌, [], ◌∷◌, ◌++◌, Some, length, slice_get, IfOk, IsTrue, OnErr, OnOk};
+ghost use Rattle.std.specs.Prelude.{◌≡◌, ◌≤◌, ◌<◌, ◌-◌, ◌↔◌, [], ◌∷◌, ◌++◌, Some, length, slice_get, IfOk, IsTrue};
+ghost use Rattle.std.specs.Prelude.{OnErr, OnOk};
 ghost use Rattle.location_words.specs.Pairs.{IsHeldWord};
 ghost use Rattle.location_table.specs.declared.entry.LocationEntry.TheVariants.{Datum, Product};
 ghost use Rattle.location_table.specs.Held.{CanAdd, most_entries};
 ghost use Rattle.location_table.specs.Limits.{AreWithin, IsWithin};
-ghost use Rattle.location_table.specs.Words.{datum_word, datums_of, with_factor, word_of_factors, word_of_place, words_of};
+ghost use Rattle.location_table.specs.Words.{datum_word, datums_of, with_factor, word_of_factors, word_of_place};
+ghost use Rattle.location_table.specs.Words.{words_of};
 
 use crate::entry::{Factor, Factors, LocationEntry};
 use crate::limits::factor_onto;

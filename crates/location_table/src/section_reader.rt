@@ -1,10 +1,9 @@
 //! The reader of the whole section `Locations`.
-ghost use Rattle.std.specs.Prelude.{◌≡◌, ◌<◌, ◌≤◌, List, [], Ok, Err};
-ghost use Rattle.brep_tokens.specs.declared.text.Token.{Token};
+ghost use Rattle.std.specs.Prelude.{◌≡◌, ◌<◌, ◌≤◌, [], Err};
 ghost use Rattle.entry_readers.specs.Reading.{more};
-ghost use Rattle.entry_readers.specs.Takes.{Takes};
+ghost use Rattle.entry_readers.specs.Takes.{HasRead, ReadsAs};
 ghost use Rattle.location_table.specs.Held.{most_entries};
-ghost use Rattle.location_table.specs.SectionLeft.{locations_left, IsReading};
+ghost use Rattle.location_table.specs.SectionLeft.{locations_left, IsReading, TakesLocations};
 ghost use Rattle.location_table.specs.Sections.{locations_at};
 
 use crate::reader::LocationReader;
@@ -13,8 +12,8 @@ use brep_tokens::{Progress, ReadStop, Token};
 use std::alloc::Global;
 use std::mem;
 
-/// Takes the tokens of so many entries, each after those before it. The number that a file claims takes no memory before its entries
-/// come, and each word is multiplied out once.
+/// Takes the tokens of so many entries, each after those before it. The number that a file claims takes no memory
+/// before its entries come, and each word is multiplied out once.
 #[derive(Drop)]
 pub struct LocationsReader {
     section: Locations,
@@ -27,7 +26,7 @@ impl LocationsReader {
     /// No token was taken yet.
     pub fn new(alloc: Global, due: u64) -> LocationsReader
         requires { (0 < due) × (due ≤ most_entries) }
-        ensures left { (ts : List Token) → locations_left result ts ≡ locations_at due ts }
+        ensures left { ReadsAs (locations_left result) (locations_at due) }
         ensures reads { IsReading result }
         ensures open { locations_left result [] ≡ Err more }
     {
@@ -42,7 +41,7 @@ impl LocationsReader {
     /// Takes a token.
     pub fn take(&mut self, t: &Token) -> Result<Progress, ReadStop>
         requires { IsReading self.old }
-        ensures { Takes (locations_left self.old) t.now (locations_left self.new) (IsReading self.new) (self.new.due ≡ 0) result }
+        ensures { TakesLocations self.old t.now self.new result }
     {
         match self.reader.take(t, &self.section) {
             Err(e) => Err(e),
@@ -67,7 +66,7 @@ impl LocationsReader {
     /// The section.
     pub fn done(self) -> Locations
         requires { self.due ≡ 0 }
-        ensures { (rest : List Token) → locations_left self rest ≡ Ok (result, rest) }
+        ensures { HasRead (locations_left self) result }
     {
         self.section
     }

@@ -9,9 +9,11 @@ use Rattle.mesh_tables.specs.Laws.{MeshesCanBeSpelled}
 use Rattle.mesh_tables.specs.Spelling.{with_flag}
 use Rattle.mesh_tables.proofs.Forms.{all_append}
 
-pub short_more : (xs : List (List ℕ)) (i : ℕ) (x : List ℕ) → slice_get xs i ≡ Some x → length x ≤ 128 → AreShort (take i xs) → AreShort (take (i + 1) xs)
+pub short_more : (xs : List (List ℕ)) (i : ℕ) (x : List ℕ) → slice_get xs i ≡ Some x → length x ≤ 128
+    → AreShort (take i xs) → AreShort (take (i + 1) xs)
 short_more xs i x e fits so_far =
-    rw (take_more xs i x (slice_get_within xs i x e), get_or_from_slice_get xs i x x e) (all_append (λ text. length text ≤ 128) (take i xs) (x ∷ []) so_far (fits, tt))
+    rw (take_more xs i x (slice_get_within xs i x e), get_or_from_slice_get xs i x x e)
+    (all_append (λ text. length text ≤ 128) (take i xs) (x ∷ []) so_far (fits, tt))
 
 pub short_all : (xs : List (List ℕ)) → AreShort (take (length xs) xs) → AreShort xs
 short_all xs so_far = subst AreShort (take_all (length xs) xs (omega arith)) so_far
@@ -33,7 +35,11 @@ can_be_spelled = record {
   polygon = λ p sound short. record { shape = sound.shape; short = short.1.1 };
   polygon_on = λ p sound short. record {
     shape = sound.shape;
-    short = short_flagged p.params p.texts (short_right (spell_numbers p.nodes) (codes "p" ∷ with_flag p.params p.texts) short.1).1;
+    short = short_flagged p.params p.texts
+        (short_right (spell_numbers p.nodes) (codes "p" ∷ with_flag p.params p.texts) short.1).1;
   };
-  mesh = λ m sound short. record { shape = sound.shape; short = short_left m.texts (spell_numbers m.corners) short.1.1.1 };
+  mesh = λ m sound short. record {
+    shape = sound.shape;
+    short = short_left m.texts (spell_numbers m.corners) short.1.1.1;
+  };
 }

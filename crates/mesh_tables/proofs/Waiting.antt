@@ -22,7 +22,8 @@ no_numbers : (low high : ℕ) (numbers : List ℕ) (n : ℕ) → 0 < n → numbe
 no_numbers low high numbers zero lt = absurd (omega (arith, lt))
 no_numbers low high numbers (suc n) lt = refl
 
-polygon_at_stage : (s : polygon_reader.Stage) (r : Polygon3Reader) → polygon.IsDue s r.texts.due → polygon.at_stage s r [] ≡ Err more
+polygon_at_stage : (s : polygon_reader.Stage) (r : Polygon3Reader) → polygon.IsDue s r.texts.due
+    → polygon.at_stage s r [] ≡ Err more
 polygon_at_stage polygon_stages.Nodes r due = refl
 polygon_at_stage (polygon_stages.Params nodes) r due = refl
 polygon_at_stage (polygon_stages.Texts nodes params) r due = rw (no_texts r.texts.texts r.texts.due due) refl
@@ -30,23 +31,28 @@ polygon_at_stage (polygon_stages.Texts nodes params) r due = rw (no_texts r.text
 pub polygon_opens : (r : Polygon3Reader) → polygon.IsDue r.stage r.texts.due → polygon.polygon_left r [] ≡ Err more
 polygon_opens r due = polygon_at_stage r.stage r due
 
-polygon_on_at_stage : (s : polygon_on_reader.Stage) (r : PolygonOnMeshReader) → polygon_on.IsDue s r.nodes.due r.texts.due → polygon_on.at_stage s r [] ≡ Err more
+polygon_on_at_stage : (s : polygon_on_reader.Stage) (r : PolygonOnMeshReader)
+    → polygon_on.IsDue s r.nodes.due r.texts.due → polygon_on.at_stage s r [] ≡ Err more
 polygon_on_at_stage polygon_on_stages.Count r due = refl
-polygon_on_at_stage (polygon_on_stages.Nodes count) r due = rw (no_numbers r.nodes.low r.nodes.high r.nodes.numbers r.nodes.due due) refl
+polygon_on_at_stage (polygon_on_stages.Nodes count) r due =
+    rw (no_numbers r.nodes.low r.nodes.high r.nodes.numbers r.nodes.due due) refl
 polygon_on_at_stage (polygon_on_stages.WordP count) r due = refl
 polygon_on_at_stage (polygon_on_stages.Deflection count) r due = refl
 polygon_on_at_stage (polygon_on_stages.Params count) r due = refl
 polygon_on_at_stage (polygon_on_stages.Texts params) r due = rw (no_texts r.texts.texts r.texts.due due) refl
 
-pub polygon_on_opens : (r : PolygonOnMeshReader) → polygon_on.PolygonOnWaits r → polygon_on.polygon_on_left r [] ≡ Err more
+pub polygon_on_opens : (r : PolygonOnMeshReader) → polygon_on.PolygonOnWaits r
+    → polygon_on.polygon_on_left r [] ≡ Err more
 polygon_on_opens r due = polygon_on_at_stage r.stage r due
 
-mesh_at_stage : (s : mesh_reader.Stage) (r : MeshReader) → mesh.IsDue s r.texts.due r.corners.due → mesh.at_stage s r [] ≡ Err more
+mesh_at_stage : (s : mesh_reader.Stage) (r : MeshReader) → mesh.IsDue s r.texts.due r.corners.due
+    → mesh.at_stage s r [] ≡ Err more
 mesh_at_stage mesh_stages.Nodes r due = refl
 mesh_at_stage (mesh_stages.Triangles nodes) r due = refl
 mesh_at_stage (mesh_stages.Uv nodes triangles) r due = refl
 mesh_at_stage (mesh_stages.Texts nodes triangles uv) r due = rw (no_texts r.texts.texts r.texts.due due) refl
-mesh_at_stage (mesh_stages.Corners nodes triangles uv) r due = rw (no_numbers r.corners.low r.corners.high r.corners.numbers r.corners.due due) refl
+mesh_at_stage (mesh_stages.Corners nodes triangles uv) r due =
+    rw (no_numbers r.corners.low r.corners.high r.corners.numbers r.corners.due due) refl
 
 pub mesh_opens : (r : MeshReader) → mesh.IsDue r.stage r.texts.due r.corners.due → mesh.mesh_left r [] ≡ Err more
 mesh_opens r due = mesh_at_stage r.stage r due

@@ -4,7 +4,8 @@ use Rattle.std.specs.List.{AllByRecursion}
 use Rattle.entry_readers.specs.Begins.{IsDecimal, IsExact}
 use Rattle.entry_readers.specs.Spelled.{AreShort}
 use Rattle.mesh_tables.specs.Meshes.{mesh_at, polygon_at, polygon_on_at}
-use Rattle.mesh_tables.specs.Sound.{CanSpellMesh, CanSpellPolygon, CanSpellPolygonOn, IsSoundMesh, IsSoundPolygon, IsSoundPolygonOn}
+use Rattle.mesh_tables.specs.Sound.{CanSpellMesh, CanSpellPolygon, CanSpellPolygonOn, IsSoundMesh, IsSoundPolygon}
+use Rattle.mesh_tables.specs.Sound.{IsSoundPolygonOn}
 use Rattle.mesh_tables.specs.Spelling.{spell_mesh, spell_polygon, spell_polygon_on}
 use Rattle.mesh_tables.specs.declared.entries.Mesh.{Mesh}
 use Rattle.mesh_tables.specs.declared.entries.Polygon3.{Polygon3}

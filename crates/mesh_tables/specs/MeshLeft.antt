@@ -1,8 +1,11 @@
 -- What the reader of a mesh has still to read.
-use Rattle.std.specs.Prelude.{◌≡◌, ◌<◌, ℕ, List, Ok}
+use Rattle.std.specs.Prelude.{◌≡◌, ◌<◌, ℕ, Bool, MatchBool, List, Ok, Result}
 use Rattle.brep_tokens.specs.declared.text.Token.{Token}
+use Rattle.brep_tokens.specs.declared.fault.Progress.{Progress}
+use Rattle.brep_tokens.specs.declared.fault.ReadStop.{ReadStop}
 use Rattle.entry_readers.specs.Begins.{IsSmall}
 use Rattle.entry_readers.specs.Left.{decimals_left, numbers_left}
+use Rattle.entry_readers.specs.Takes.{Takes}
 use Rattle.lists.specs.Results.{◌>>=◌}
 use Rattle.entry_readers.specs.Reading.{Read, flag_at, number_at}
 use Rattle.mesh_tables.specs.Meshes.{corners_at, mesh_at, mesh_texts_at}
@@ -63,3 +66,11 @@ pub record MeshWaits (r : MeshReader) : Type 0 where
 -- The mesh is whole.
 abbrev pub MeshIsWhole : MeshReader → Type 0
 MeshIsWhole r = IsLast r.stage r.corners.due
+
+-- A reader of a mesh took a token: it waits for more, or the mesh is whole.
+abbrev pub TakesMesh : MeshReader → Token → MeshReader → Result Progress ReadStop → Type 0
+TakesMesh old t new result = Takes (mesh_left old) t (mesh_left new) (MeshWaits new) (MeshIsWhole new) result
+
+-- whether the mesh is whole; where it isn't, a token is due
+abbrev pub TellsWhole : Bool → MeshReader → Type 0
+TellsWhole told r = MatchBool told (MeshIsWhole r) (IsDue r.stage r.texts.due r.corners.due)

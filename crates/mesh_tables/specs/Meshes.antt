@@ -2,7 +2,8 @@
 use Rattle.std.specs.Prelude.{ℕ, ◌*◌, ◌-◌, ◌^◌, Bool, List, [], ◌∷◌, Ok, codes}
 use Rattle.brep_tokens.specs.declared.text.Token.{Token}
 use Rattle.lists.specs.Results.{◌>>=◌}
-use Rattle.entry_readers.specs.Reading.{Read, decimal_at, decimals_at, decimals_from, flag_at, number_at, numbers_at, word_at}
+use Rattle.entry_readers.specs.Reading.{Read, decimal_at, decimals_at, decimals_from, flag_at, number_at, numbers_at}
+use Rattle.entry_readers.specs.Reading.{word_at}
 use Rattle.mesh_tables.specs.Counts.{mesh_size, param_count, polygon_size}
 use Rattle.mesh_tables.specs.declared.entries.Mesh.{Mesh}
 use Rattle.mesh_tables.specs.declared.entries.Polygon3.{Polygon3}

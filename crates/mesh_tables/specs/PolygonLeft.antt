@@ -1,8 +1,11 @@
 -- What the reader of a polygon in space has still to read.
-use Rattle.std.specs.Prelude.{◌≡◌, ◌<◌, ℕ, List, Ok}
+use Rattle.std.specs.Prelude.{◌≡◌, ◌<◌, ℕ, List, Ok, Result}
 use Rattle.brep_tokens.specs.declared.text.Token.{Token}
+use Rattle.brep_tokens.specs.declared.fault.Progress.{Progress}
+use Rattle.brep_tokens.specs.declared.fault.ReadStop.{ReadStop}
 use Rattle.entry_readers.specs.Begins.{IsSmall}
 use Rattle.entry_readers.specs.Left.{decimals_left}
+use Rattle.entry_readers.specs.Takes.{Takes}
 use Rattle.lists.specs.Results.{◌>>=◌}
 use Rattle.entry_readers.specs.Reading.{Read, flag_at}
 use Rattle.mesh_tables.specs.Meshes.{polygon_at, polygon_texts_at}
@@ -50,3 +53,8 @@ pub record PolygonWaits (r : Polygon3Reader) : Type 0 where
 -- The polygon is whole.
 abbrev pub PolygonIsWhole : Polygon3Reader → Type 0
 PolygonIsWhole r = IsLast r.stage r.texts.due
+
+-- A reader of a polygon in space took a token: it waits for more, or the polygon is whole.
+abbrev pub TakesPolygon : Polygon3Reader → Token → Polygon3Reader → Result Progress ReadStop → Type 0
+TakesPolygon old t new result = Takes (polygon_left old) t (polygon_left new) (PolygonWaits new)
+    (PolygonIsWhole new) result

@@ -1,7 +1,10 @@
 -- What the reader of a polygon on a mesh has still to read.
-use Rattle.std.specs.Prelude.{◌≡◌, ◌<◌, ℕ, List, [], ◌∷◌, Ok}
+use Rattle.std.specs.Prelude.{◌≡◌, ◌<◌, ℕ, List, [], ◌∷◌, Ok, Result}
 use Rattle.brep_tokens.specs.declared.text.Token.{Token}
+use Rattle.brep_tokens.specs.declared.fault.Progress.{Progress}
+use Rattle.brep_tokens.specs.declared.fault.ReadStop.{ReadStop}
 use Rattle.entry_readers.specs.Left.{decimals_left, numbers_left}
+use Rattle.entry_readers.specs.Takes.{Takes}
 use Rattle.lists.specs.Results.{◌>>=◌}
 use Rattle.entry_readers.specs.Reading.{Read, decimal_at}
 use Rattle.mesh_tables.specs.Meshes.{params_at, polygon_on_at, word_p_at}
@@ -53,3 +56,8 @@ PolygonOnWaits r = IsDue r.stage r.nodes.due r.texts.due
 -- The polygon is whole.
 abbrev pub PolygonOnIsWhole : PolygonOnMeshReader → Type 0
 PolygonOnIsWhole r = IsLast r.stage r.texts.due
+
+-- A reader of a polygon on a mesh took a token: it waits for more, or the polygon is whole.
+abbrev pub TakesPolygonOn : PolygonOnMeshReader → Token → PolygonOnMeshReader → Result Progress ReadStop → Type 0
+TakesPolygonOn old t new result = Takes (polygon_on_left old) t (polygon_on_left new) (PolygonOnWaits new)
+    (PolygonOnIsWhole new) result

@@ -21,7 +21,8 @@ CanGivePolygon s = AreShort (texts_left s.texts)
 -- ---- polygons on meshes
 
 abbrev pub at_part : Part → PolygonOnMeshSpell → List (List ℕ)
-at_part (parts.Count count) s = decimal count ∷ (numbers_left s.nodes ++ codes "p" ∷ with_flag s.params (texts_left s.texts))
+at_part (parts.Count count) s =
+    decimal count ∷ (numbers_left s.nodes ++ codes "p" ∷ with_flag s.params (texts_left s.texts))
 at_part parts.Nodes s = numbers_left s.nodes ++ codes "p" ∷ with_flag s.params (texts_left s.texts)
 at_part parts.Deflection s = with_flag s.params (texts_left s.texts)
 at_part parts.Flag s = flag_text s.params ∷ texts_left s.texts

@@ -4,7 +4,8 @@ ghost use Rattle.mesh_tables.specs.Laws.{MeshesAreExact, MeshesCanBeSpelled};
 use brep_tokens::laws::forms_are_exact;
 use entry_readers::laws::fields_are_exact;
 
-/// Each polygon and each mesh is read exactly as it is spelled, and its tokens have the form of decimals, but for the word `p`.
+/// Each polygon and each mesh is read exactly as it is spelled, and its tokens have the form of decimals, but for the
+/// word `p`.
 pub fn meshes_are_exact()
     ensures { MeshesAreExact }
 {

@@ -1,10 +1,9 @@
 //! The reader of a mesh.
-ghost use Rattle.std.specs.Prelude.{◌≡◌, ◌<◌, ◌^◌, List, MatchBool, Ok, OnOk};
-ghost use Rattle.brep_tokens.specs.declared.text.Token.{Token};
-ghost use Rattle.entry_readers.specs.Takes.{IsOpen, StepsOn, Takes};
+ghost use Rattle.std.specs.Prelude.{◌≡◌, ◌<◌, ◌^◌, OnOk};
+ghost use Rattle.entry_readers.specs.Takes.{HasRead, IsOpen, ReadsAs, StepsOn};
 ghost use Rattle.mesh_tables.specs.Counts.{mesh_size};
 ghost use Rattle.mesh_tables.specs.Meshes.{mesh_at};
-ghost use Rattle.mesh_tables.specs.MeshLeft.{IsDue, IsFit, MeshIsWhole, MeshWaits, at_stage, mesh_left};
+ghost use Rattle.mesh_tables.specs.MeshLeft.{IsFit, MeshIsWhole, MeshWaits, TakesMesh, TellsWhole, at_stage, mesh_left};
 ghost use Rattle.mesh_tables.specs.declared.mesh_reader.Stage.TheVariants as stages;
 
 use crate::entries::Mesh;
@@ -56,7 +55,7 @@ fn size(nodes: u64, uv: bool) -> u64
 impl MeshReader {
     /// No token was taken yet.
     pub fn new(alloc: Global) -> MeshReader
-        ensures left { (ts : List Token) → mesh_left result ts ≡ mesh_at ts }
+        ensures left { ReadsAs (mesh_left result) mesh_at }
         ensures waits { MeshWaits result }
         ensures open { IsOpen (mesh_left result) }
     {
@@ -134,9 +133,9 @@ impl MeshReader {
     fn begin_corners(&mut self, nodes: u64, triangles: u64, uv: bool) -> bool
         requires triangles { triangles < 10 ^ 18 }
         requires texts { self.old.texts.due ≡ 0 }
-        ensures left { (rest : List Token) → mesh_left self.new rest ≡ at_stage (stages.Texts nodes triangles uv) self.old rest }
+        ensures left { ReadsAs (mesh_left self.new) (at_stage (stages.Texts nodes triangles uv) self.old) }
         ensures fit { IsFit self.new.stage }
-        ensures due { MatchBool result (MeshIsWhole self.new) (IsDue self.new.stage self.new.texts.due self.new.corners.due) }
+        ensures due { TellsWhole result self.new }
     {
         self.corners = NumbersDue::new(self.alloc, 1, nodes, 3 * triangles);
         self.stage = Stage::Corners {
@@ -150,9 +149,9 @@ impl MeshReader {
     /// Goes on to the corners where no decimal is due. Is no token due any more?
     fn settle(&mut self) -> bool
         requires { IsFit self.old.stage }
-        ensures left { (rest : List Token) → mesh_left self.new rest ≡ mesh_left self.old rest }
+        ensures left { ReadsAs (mesh_left self.new) (mesh_left self.old) }
         ensures fit { IsFit self.new.stage }
-        ensures due { MatchBool result (MeshIsWhole self.new) (IsDue self.new.stage self.new.texts.due self.new.corners.due) }
+        ensures due { TellsWhole result self.new }
     {
         match self.stage {
             Stage::Texts {
@@ -171,11 +170,12 @@ impl MeshReader {
         }
     }
 
-    /// Takes a token. Nothing is kept for decimals and corners that did not come yet, however many nodes and triangles are claimed.
+    /// Takes a token. Nothing is kept for decimals and corners that did not come yet, however many nodes and triangles
+    /// are claimed.
     #[tactic(auto, using(crate::proofs::Waiting::mesh_opens))]
     pub fn take(&mut self, t: &Token) -> Result<Progress, ReadStop>
         requires { MeshWaits self.old }
-        ensures { Takes (mesh_left self.old) t.now (mesh_left self.new) (MeshWaits self.new) (MeshIsWhole self.new) result }
+        ensures { TakesMesh self.old t.now self.new result }
     {
         match self.step(t) {
             Err(e) => Err(e),
@@ -192,7 +192,7 @@ impl MeshReader {
     /// The mesh.
     pub fn done(self) -> Mesh
         requires { MeshIsWhole self }
-        ensures { (rest : List Token) → mesh_left self rest ≡ Ok (result, rest) }
+        ensures { HasRead (mesh_left self) result }
     {
         let MeshReader {
             stage,

@@ -1,9 +1,9 @@
 //! The reader of a polygon on a mesh.
-ghost use Rattle.std.specs.Prelude.{◌≡◌, List, MatchBool, Ok};
-ghost use Rattle.brep_tokens.specs.declared.text.Token.{Token};
-ghost use Rattle.entry_readers.specs.Takes.{IsOpen, StepsOn, Takes};
+ghost use Rattle.std.specs.Prelude.{MatchBool};
+ghost use Rattle.entry_readers.specs.Takes.{HasRead, IsOpen, ReadsAs, StepsOn};
 ghost use Rattle.mesh_tables.specs.Meshes.{polygon_on_at};
-ghost use Rattle.mesh_tables.specs.PolygonOnLeft.{PolygonOnIsWhole, PolygonOnWaits, at_stage, polygon_on_left};
+ghost use Rattle.mesh_tables.specs.PolygonOnLeft.{PolygonOnIsWhole, PolygonOnWaits, TakesPolygonOn, at_stage};
+ghost use Rattle.mesh_tables.specs.PolygonOnLeft.{polygon_on_left};
 ghost use Rattle.mesh_tables.specs.declared.polygon_on_reader.Stage.TheVariants as stages;
 
 use crate::entries::PolygonOnMesh;
@@ -37,7 +37,7 @@ pub struct PolygonOnMeshReader {
 impl PolygonOnMeshReader {
     /// No token was taken yet.
     pub fn new(alloc: Global) -> PolygonOnMeshReader
-        ensures left { (ts : List Token) → polygon_on_left result ts ≡ polygon_on_at ts }
+        ensures left { ReadsAs (polygon_on_left result) polygon_on_at }
         ensures waits { PolygonOnWaits result }
         ensures open { IsOpen (polygon_on_left result) }
     {
@@ -117,7 +117,7 @@ impl PolygonOnMeshReader {
 
     /// Goes on to the word `p` where the number of no node is due. Is no token due any more?
     fn settle(&mut self) -> bool
-        ensures left { (rest : List Token) → polygon_on_left self.new rest ≡ polygon_on_left self.old rest }
+        ensures left { ReadsAs (polygon_on_left self.new) (polygon_on_left self.old) }
         ensures due { MatchBool result (PolygonOnIsWhole self.new) (PolygonOnWaits self.new) }
     {
         match self.stage {
@@ -136,7 +136,7 @@ impl PolygonOnMeshReader {
     #[tactic(auto, using(crate::proofs::Waiting::polygon_on_opens))]
     pub fn take(&mut self, t: &Token) -> Result<Progress, ReadStop>
         requires { PolygonOnWaits self.old }
-        ensures { Takes (polygon_on_left self.old) t.now (polygon_on_left self.new) (PolygonOnWaits self.new) (PolygonOnIsWhole self.new) result }
+        ensures { TakesPolygonOn self.old t.now self.new result }
     {
         match self.step(t) {
             Err(e) => Err(e),
@@ -153,7 +153,7 @@ impl PolygonOnMeshReader {
     /// The polygon.
     pub fn done(self) -> PolygonOnMesh
         requires { PolygonOnIsWhole self }
-        ensures { (rest : List Token) → polygon_on_left self rest ≡ Ok (result, rest) }
+        ensures { HasRead (polygon_on_left self) result }
     {
         let PolygonOnMeshReader {
             stage,

@@ -1,10 +1,10 @@
 //! The reader of a polygon in space.
-ghost use Rattle.std.specs.Prelude.{◌≡◌, ◌<◌, ◌^◌, List, MatchBool, Ok, OnOk};
-ghost use Rattle.brep_tokens.specs.declared.text.Token.{Token};
-ghost use Rattle.entry_readers.specs.Takes.{IsOpen, StepsOn, Takes};
+ghost use Rattle.std.specs.Prelude.{◌≡◌, ◌<◌, ◌^◌, MatchBool, OnOk};
+ghost use Rattle.entry_readers.specs.Takes.{HasRead, IsOpen, ReadsAs, StepsOn};
 ghost use Rattle.mesh_tables.specs.Counts.{polygon_size};
 ghost use Rattle.mesh_tables.specs.Meshes.{polygon_at};
-ghost use Rattle.mesh_tables.specs.PolygonLeft.{IsDue, IsFit, PolygonIsWhole, PolygonWaits, at_stage, polygon_left};
+ghost use Rattle.mesh_tables.specs.PolygonLeft.{IsDue, IsFit, PolygonIsWhole, PolygonWaits, TakesPolygon, at_stage};
+ghost use Rattle.mesh_tables.specs.PolygonLeft.{polygon_left};
 ghost use Rattle.mesh_tables.specs.declared.polygon_reader.Stage.TheVariants as stages;
 
 use crate::entries::Polygon3;
@@ -40,7 +40,7 @@ fn size(nodes: u64, params: bool) -> u64
 impl Polygon3Reader {
     /// No token was taken yet.
     pub fn new(alloc: Global) -> Polygon3Reader
-        ensures left { (ts : List Token) → polygon_left result ts ≡ polygon_at ts }
+        ensures left { ReadsAs (polygon_left result) polygon_at }
         ensures waits { PolygonWaits result }
         ensures open { IsOpen (polygon_left result) }
     {
@@ -103,7 +103,7 @@ impl Polygon3Reader {
     #[tactic(auto, using(crate::proofs::Waiting::polygon_opens))]
     pub fn take(&mut self, t: &Token) -> Result<Progress, ReadStop>
         requires { PolygonWaits self.old }
-        ensures { Takes (polygon_left self.old) t.now (polygon_left self.new) (PolygonWaits self.new) (PolygonIsWhole self.new) result }
+        ensures { TakesPolygon self.old t.now self.new result }
     {
         match self.step(t) {
             Err(e) => Err(e),
@@ -120,7 +120,7 @@ impl Polygon3Reader {
     /// The polygon.
     pub fn done(self) -> Polygon3
         requires { PolygonIsWhole self }
-        ensures { (rest : List Token) → polygon_left self rest ≡ Ok (result, rest) }
+        ensures { HasRead (polygon_left self) result }
     {
         let Polygon3Reader { stage, texts, .. } = self;
         match stage {

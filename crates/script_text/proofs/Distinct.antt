@@ -1,5 +1,6 @@
 -- No number stands twice exactly where the set of the numbers is as large as their list.
-use Rattle.std.proofs.Common.{◌≡◌, ◌≢◌, ℕ, Bool, true, false, ◌==◌, ◌&&◌, ◌||◌, not, nat_eq, List, [], ◌∷◌, length, map, refl}
+use Rattle.std.proofs.Common.{◌≡◌, ◌≢◌, ℕ, Bool, true, false, ◌==◌, ◌&&◌, ◌||◌, not, nat_eq, List, [], ◌∷◌, length, map}
+use Rattle.std.proofs.Common.{refl}
 use Rattle.std.specs.Bool.{Decides}
 use Rattle.std.specs.List.{AllPairs, AllByRecursion, IsDistinct, list_any}
 use Rattle.std.specs.Cmp.{unsigned_Decides}
@@ -19,13 +20,15 @@ neither : (a b : Bool) → (not a && b) ≡ true → (a ≡ false) × (b ≡ tru
 neither true b h = absurd cc
 neither false b h = (refl, h)
 
-none_same : (n : ℕ) (ms : List Mention) → list_any (λ k. n == k.number) ms ≡ false → AllByRecursion (λ y. nat_eq n y ≡ false) (map (λ m. m.number) ms)
+none_same : (n : ℕ) (ms : List Mention) → list_any (λ k. n == k.number) ms ≡ false
+    → AllByRecursion (λ y. nat_eq n y ≡ false) (map (λ m. m.number) ms)
 none_same n [] h = tt
 none_same n (m ∷ ms) h =
     let both = or_false (n == m.number) (list_any (λ k. n == k.number) ms) h in
     (both.0, none_same n ms both.1)
 
-same_none : (n : ℕ) (ms : List Mention) → AllByRecursion (λ y. nat_eq n y ≡ false) (map (λ m. m.number) ms) → list_any (λ k. n == k.number) ms ≡ false
+same_none : (n : ℕ) (ms : List Mention) → AllByRecursion (λ y. nat_eq n y ≡ false) (map (λ m. m.number) ms)
+    → list_any (λ k. n == k.number) ms ≡ false
 same_none n [] h = refl
 same_none n (m ∷ ms) h = rw h.0 (same_none n ms h.1)
 
@@ -41,15 +44,19 @@ unfolding IsDistinct
 distinct_back [] h = refl
 distinct_back (m ∷ ms) h = rw (same_none m.number ms h.0) (distinct_back ms h.1)
 
-pub distinct_Decides : (ms : List Mention) → Decides (are_distinct ms) (AllPairs (λ x y. x ≢ y) (map (λ m. m.number) ms))
+pub distinct_Decides : (ms : List Mention)
+    → Decides (are_distinct ms) (AllPairs (λ x y. x ≢ y) (map (λ m. m.number) ms))
 distinct_Decides ms = (
   λ h. AllPairs-from_IsDistinct unsigned_Decides (map (λ m. m.number) ms) (distinct_there ms h),
   λ p. distinct_back ms (IsDistinct-from_AllPairs unsigned_Decides (map (λ m. m.number) ms) p),
 )
 
-pub set_tells : {S : Type 0} (ms : List Mention) (set : HashSet ℕ S) (size : ℕ) → IsFromIterResult nat_eq (map (λ m. m.number) ms) set → size ≡ hash_set_len set → nat_eq size (length ms) ≡ are_distinct ms
+pub set_tells : {S : Type 0} (ms : List Mention) (set : HashSet ℕ S) (size : ℕ)
+    → IsFromIterResult nat_eq (map (λ m. m.number) ms) set → size ≡ hash_set_len set
+    → nat_eq size (length ms) ≡ are_distinct ms
 set_tells ms set size from is =
     let tells = hash_set_len-Decides unsigned_Decides nat_eq_equiv (map (λ m. m.number) ms) set from in
-    let same = same_from_decides (nat_eq (hash_set_len set) (length (map (λ (m : Mention). m.number) ms))) (are_distinct ms) tells (distinct_Decides ms) in
+    let same = same_from_decides (nat_eq (hash_set_len set) (length (map (λ (m : Mention). m.number) ms)))
+    (are_distinct ms) tells (distinct_Decides ms) in
     let long : length (map (λ (m : Mention). m.number) ms) ≡ length ms = simp length-map in
     rw is (rw long at same)

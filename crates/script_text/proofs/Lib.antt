@@ -5,4 +5,5 @@ pub mod ReadingParts
 pub mod ReadingWhole
 pub mod AnswerLaws
 pub mod WrittenWords
+pub mod WrittenMeaning
 pub mod WritingLaws

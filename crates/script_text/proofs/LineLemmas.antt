@@ -1,5 +1,6 @@
 -- The first line of a text, and how many lines it has.
-use Rattle.std.proofs.Common.{◌≡◌, ℕ, zero, suc, ◌-◌, ◌<◌, ◌≤◌, inl, inr, Bool, true, false, ◌==◌, ltb, ◌&&◌, if◌then◌else◌, List, [], ◌∷◌, length, get_or, take, drop, refl, sym, ap, ◌∙◌, arith}
+use Rattle.std.proofs.Common.{◌≡◌, ℕ, zero, suc, ◌-◌, ◌<◌, ◌≤◌, inl, inr, Bool, true, false, ◌==◌, ltb, ◌&&◌}
+use Rattle.std.proofs.Common.{if◌then◌else◌, List, [], ◌∷◌, length, get_or, take, drop, refl, sym, ap, ◌∙◌, arith}
 use Rattle.std.proofs.lemmas.Bool.{lt-ltb}
 use Rattle.std.proofs.lemmas.Bool.Decides.{eqb_tells}
 use Rattle.std.proofs.lemmas.List.Sums.{sum_by-cons}
@@ -54,7 +55,8 @@ ended_more b (d ∷ ds) next c other e rest =
       | inr goes ↦ rw (other, goes.0) (rw goes.0 at (ap (onto_line b) rest))
     ]
 
-lines_ended : (bytes next : List ℕ) (c : ℕ) → drop (line_size bytes) bytes ≡ c ∷ next → script_lines bytes ≡ cut (take (line_size bytes) bytes) ∷ script_lines next
+lines_ended : (bytes next : List ℕ) (c : ℕ) → drop (line_size bytes) bytes ≡ c ∷ next
+    → script_lines bytes ≡ cut (take (line_size bytes) bytes) ∷ script_lines next
 lines_ended [] next c e = absurd cc
 lines_ended (b ∷ bs) next c e =
     elim (eqb_tells b 10) [
@@ -65,7 +67,8 @@ lines_ended (b ∷ bs) next c e =
           ended_more b bs next c other.0 f (lines_ended bs next c f))
     ]
 
-open_more : (b : ℕ) (bs : List ℕ) → (b == 10) ≡ false → drop (line_size bs) bs ≡ [] → (0 < length bs → drop (line_size bs) bs ≡ [] → script_lines bs ≡ bs ∷ []) → script_lines (b ∷ bs) ≡ (b ∷ bs) ∷ []
+open_more : (b : ℕ) (bs : List ℕ) → (b == 10) ≡ false → drop (line_size bs) bs ≡ []
+    → (0 < length bs → drop (line_size bs) bs ≡ [] → script_lines bs ≡ bs ∷ []) → script_lines (b ∷ bs) ≡ (b ∷ bs) ∷ []
 open_more b [] other e rest = rw other refl
 open_more b (d ∷ ds) other e rest =
     elim (eqb_tells d 10) [
@@ -82,7 +85,8 @@ lines_open (b ∷ bs) some e =
     ]
 
 -- where no byte 10 follows, the first line is all
-pub open_line : (bytes line end : List ℕ) (size : ℕ) → 0 < length bytes → size ≡ line_size bytes → line ≡ take size bytes → end ≡ drop size bytes → length end ≡ 0
+pub open_line : (bytes line end : List ℕ) (size : ℕ) → 0 < length bytes → size ≡ line_size bytes
+    → line ≡ take size bytes → end ≡ drop size bytes → length end ≡ 0
     → script_lines bytes ≡ line ∷ script_lines end
 open_line bytes line end size some is line_is end_is none =
     let nil : end ≡ [] = nil_from_length end none in
@@ -92,13 +96,15 @@ open_line bytes line end size some is line_is end_is none =
     rw (nil, whole) (lines_open bytes some all)
 
 -- where a byte 10 follows, it is what stands before it
-pub ended_line : (bytes line end next : List ℕ) (size : ℕ) → size ≡ line_size bytes → line ≡ take size bytes → end ≡ drop size bytes → 0 < length end → next ≡ drop 1 end
+pub ended_line : (bytes line end next : List ℕ) (size : ℕ) → size ≡ line_size bytes → line ≡ take size bytes
+    → end ≡ drop size bytes → 0 < length end → next ≡ drop 1 end
     → script_lines bytes ≡ before_return line ∷ script_lines next
 ended_line bytes line [] next size is line_is end_is some next_is = absurd (omega arith)
 ended_line bytes line (c ∷ cs) next size is line_is end_is some next_is =
     let all : drop (line_size bytes) bytes ≡ c ∷ cs = ap (λ (n : ℕ). drop n bytes) (sym is) ∙ sym end_is in
     let first = lines_ended bytes cs c all in
-    let here : cut line ≡ cut (take (line_size bytes) bytes) = ap (λ (z : List ℕ). cut z) (line_is ∙ ap (λ (n : ℕ). take n bytes) is) in
+    let here : cut line ≡ cut (take (line_size bytes) bytes) =
+    ap (λ (z : List ℕ). cut z) (line_is ∙ ap (λ (n : ℕ). take n bytes) is) in
     rw (next_is, cut_is line, here) first
 
 -- ---- how many lines there are
@@ -141,6 +147,7 @@ lines_counted (b ∷ []) =
 lines_counted (b ∷ d ∷ ds) =
     let rest = lines_counted (d ∷ ds) in
     elim (eqb_tells b 10) [
-      | inl is ↦ (let one = rw is.0 at (sum_by-cons (λ (x : ℕ). if x == 10 then 1 else 0) b (d ∷ ds)) in rw is.0 (omega (arith, rest, one)))
+      | inl is ↦ (let one = rw is.0 at (sum_by-cons (λ (x : ℕ). if x == 10 then 1 else 0) b (d ∷ ds)) in
+          rw is.0 (omega (arith, rest, one)))
       | inr other ↦ rw other.0 (kept ((d == 10) && (b == 13)) b (script_lines (d ∷ ds)) (lines_some d ds) ∙ rest)
     ]

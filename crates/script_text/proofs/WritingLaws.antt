@@ -1,8 +1,10 @@
 -- The line of a command is read as that command, and no line of the command is shorter.
-use Rattle.std.proofs.Common.{◌≡◌, ◌≢◌, ℕ, ◌+◌, ◌<◌, ◌≤◌, inl, inr, Bool, true, false, ◌==◌, ◌&&◌, nat_le, List, [], ◌∷◌, ◌++◌, length, map, codes, if◌then◌else◌, Option, Some, None, Result, Ok, refl, sym, ap, subst, ◌∙◌, arith}
+use Rattle.std.proofs.Common.{◌≡◌, ◌≢◌, ℕ, ◌+◌, ◌<◌, ◌≤◌, inl, inr, Bool, true, false, ◌==◌, ◌&&◌, nat_le, List, []}
+use Rattle.std.proofs.Common.{◌∷◌, ◌++◌, length, map, codes, if◌then◌else◌, Option, Some, None, Ok, refl, sym}
+use Rattle.std.proofs.Common.{ap, subst, ◌∙◌, arith}
 use Rattle.std.specs.Prelude.{◌⊎◌, unwrap_or}
-use Rattle.std.specs.List.{AllByRecursion, AllPairs, join_with_byte}
-use Rattle.std.proofs.lemmas.Bool.{le-leb, leb-true}
+use Rattle.std.specs.List.{AllByRecursion, AllPairs}
+use Rattle.std.proofs.lemmas.Bool.{leb-true}
 use Rattle.std.proofs.lemmas.Bool.Decides.{eqb_tells}
 use Rattle.std.proofs.lemmas.List.{length-map}
 use Rattle.brep_tokens.specs.Written.{WrittenIsRead}
@@ -10,182 +12,24 @@ use Rattle.orientation.specs.declared.turn.Turn.{Turn}
 use Rattle.orientation.specs.declared.turn.Turn.TheVariants.{Forward, Reversed, Internal, External}
 use Rattle.script_text.specs.Answers.{Answers, IsCommandOf}
 use Rattle.script_text.specs.Laws.{CommandsAreWritten, CommandsHaveLines, IsLineOf, LinesSpellOneCommand}
-use Rattle.script_text.specs.Meaning.{command_of_line, fault_of, first_fault, location_fault, meaning_of, mentions_fault, number_of_mention, selection_fault, shape_fault, signed_name, unless_faulty}
-use Rattle.script_text.specs.Reading.{phrase_of}
-use Rattle.script_text.specs.Spelling.{AreSewn, IsBare, IsLegal, IsShort, IsShortMention, IsSided, MayBeShort, Spells, spell_mention, spell_number, spelling}
+use Rattle.script_text.specs.Meaning.{command_of_line, fault_of, first_fault, location_fault, meaning_of}
+use Rattle.script_text.specs.Meaning.{mentions_fault, number_of_mention, selection_fault, shape_fault, signed_name}
+use Rattle.script_text.specs.Meaning.{unless_faulty}
+use Rattle.script_text.specs.Spelling.{AreSewn, IsBare, IsLegal, IsShort, IsSided, Spells}
+use Rattle.script_text.specs.Spelling.{spell_mention, spell_number, spelling}
 use Rattle.script_text.specs.Words.{words_of}
-use Rattle.script_text.specs.Writing.{AreSides, HasLine, IsShape, IsSide, MayBePlace, bare_mention, line_of_command, location_for, mention_for, name_of, phrase_for, sewn_mention, sign_for}
+use Rattle.script_text.specs.Writing.{AreSides, HasLine, IsShape, IsSide, MayBePlace, bare_mention, line_of_command}
+use Rattle.script_text.specs.Writing.{location_for, mention_for, name_of, phrase_for, sewn_mention, sign_for}
 use Rattle.script_text.specs.declared.command.Command.{Command}
-use Rattle.script_text.specs.declared.command.Command.TheVariants as commands
 use Rattle.script_text.specs.declared.command.LineFault.{LineFault}
 use Rattle.script_text.specs.declared.command.LineFault.TheVariants.{NoSuchShape, NoSuchLocation}
-use Rattle.script_text.specs.declared.command.SignedName.{SignedName}
 use Rattle.script_text.specs.declared.phrase.Mention.{Mention}
 use Rattle.script_text.specs.declared.phrase.Phrase.{Phrase}
 use Rattle.script_text.specs.declared.phrase.Phrase.TheVariants.{Replace, Remove, Merge, Sew, Apply, Undo}
-use Rattle.script_text.proofs.AnswerLaws.{answers, spelling_says}
+use Rattle.script_text.proofs.AnswerLaws.{answers}
 use Rattle.script_text.proofs.ReadingParts.{none_some}
-use Rattle.script_text.proofs.WrittenWords.{joined_size, line_size_fits, size_of, spelling_back}
-
-abbrev gives : Command → Result (Option Command) LineFault
-gives c = Ok (Some c)
-
--- ---- what is written means the command
-
-turn_back : (t : Turn) → unwrap_or (sign_for t) Forward ≡ t
-turn_back Forward = refl
-turn_back Reversed = refl
-turn_back Internal = refl
-turn_back External = refl
-
-location_if : (b : Bool) (meant l : ℕ) → (b ≡ true → l ≡ meant) → unwrap_or (if b then None else Some l) meant ≡ l
-location_if true meant l is = sym (is refl)
-location_if false meant l is = refl
-
-same_if : (l meant : ℕ) → (l == meant) ≡ true → l ≡ meant
-same_if l meant e =
-    elim (eqb_tells l meant) [
-      | inl is ↦ is.1
-      | inr other ↦ absurd (let clash : true ≡ false = sym e ∙ other.0 in cc)
-    ]
-
-location_back : (place : Option ℕ) (l : ℕ) → unwrap_or (location_for place l) (unwrap_or place 0) ≡ l
-location_back place l = location_if (l == unwrap_or place 0) (unwrap_or place 0) l (same_if l (unwrap_or place 0))
-
-names_back : (ns : List ℕ) → map number_of_mention (map bare_mention ns) ≡ ns
-names_back [] = refl
-names_back (n ∷ ns) = ap (λ (z : List ℕ). n ∷ z) (names_back ns)
-
-sewn_back : (ss : List SignedName) → map signed_name (map sewn_mention ss) ≡ ss
-sewn_back [] = refl
-sewn_back (s ∷ ss) =
-    ap (λ (t : Turn). (record { name = s.name; turn = t }) ∷ map signed_name (map sewn_mention ss)) (turn_back s.turn)
-    ∙ ap (λ (z : List SignedName). s ∷ z) (sewn_back ss)
-
-pub meaning_back : (c : Command) → meaning_of (phrase_for c) ≡ c
-meaning_back (commands.Replace sel tgt) =
-    ap (λ (t : Turn). commands.Replace sel (record { name = tgt.name; turn = t; location = unwrap_or (location_for sel.place tgt.location) (unwrap_or sel.place 0) })) (turn_back tgt.turn)
-    ∙ ap (λ (l : ℕ). commands.Replace sel (record { name = tgt.name; turn = tgt.turn; location = l })) (location_back sel.place tgt.location)
-meaning_back (commands.Remove sel) = refl
-meaning_back (commands.Merge names) = ap commands.Merge (names_back names)
-meaning_back (commands.Sew names) = ap commands.Sew (sewn_back names)
-meaning_back commands.Apply = refl
-meaning_back commands.Undo = refl
-
--- ---- what is written is legal, with all numbers in range
-
-module _ (shapes locations : ℕ) where
-  shape_free : (n : ℕ) → IsShape shapes n → shape_fault shapes n ≡ None
-  shape_free n is = rw (le-leb 1 n is.0, le-leb n shapes is.1) refl
-
-  place_free : (o : Option ℕ) → MayBePlace locations o → location_fault locations o ≡ None
-  place_free None is = refl
-  place_free (Some n) is = rw (le-leb n locations is) refl
-
-  written_if : (b : Bool) (l : ℕ) → l ≤ locations → MayBePlace locations (if b then None else Some l)
-  written_if true l is = tt
-  written_if false l is = is
-
-  selection_free : (m : Mention) (o : Option ℕ) → IsShape shapes m.number → MayBePlace locations o → selection_fault shapes locations m o ≡ None
-  selection_free m o is may = rw (shape_free m.number is, place_free o may) refl
-
-  bare_free : (ns : List ℕ) → AllByRecursion (IsShape shapes) ns → mentions_fault shapes (map bare_mention ns) ≡ None
-  bare_free [] are = refl
-  bare_free (n ∷ ns) are = rw (shape_free n are.0) (bare_free ns are.1)
-
-  sewn_free : (ss : List SignedName) → AllByRecursion (IsShape shapes) (map name_of ss) → mentions_fault shapes (map sewn_mention ss) ≡ None
-  sewn_free [] are = refl
-  sewn_free (s ∷ ss) are = rw (shape_free s.name are.0) (sewn_free ss are.1)
-
-  pub fault_free : (c : Command) → HasLine shapes locations c → fault_of shapes locations (phrase_for c) ≡ None
-  fault_free (commands.Replace sel tgt) has =
-      ap (λ (o : Option LineFault). first_fault o (selection_fault shapes locations (mention_for tgt.name (sign_for tgt.turn)) (location_for sel.place tgt.location))) (selection_free (mention_for sel.name sel.turn) sel.place has.0.0 has.0.1)
-      ∙ selection_free (mention_for tgt.name (sign_for tgt.turn)) (location_for sel.place tgt.location) has.1.0 (written_if (tgt.location == unwrap_or sel.place 0) tgt.location has.1.1)
-  fault_free (commands.Remove sel) has = selection_free (mention_for sel.name sel.turn) sel.place has.0 has.1
-  fault_free (commands.Merge names) has = bare_free names has.are_shapes
-  fault_free (commands.Sew names) has = sewn_free names has.0.are_shapes
-  fault_free commands.Apply has = refl
-  fault_free commands.Undo has = refl
-
-  module _ (few_shapes : IsShort shapes) (few_locations : IsShort locations) where
-    shape_short : (n : ℕ) → IsShape shapes n → IsShort n
-    shape_short n is = (let up = is.1 in omega (arith, up, few_shapes))
-
-    place_short : (o : Option ℕ) → MayBePlace locations o → MayBeShort o
-    place_short None is = tt
-    place_short (Some n) is = omega (arith, is, few_locations)
-
-    bare_short : (ns : List ℕ) → AllByRecursion (IsShape shapes) ns → AllByRecursion IsShortMention (map bare_mention ns)
-    bare_short [] are = tt
-    bare_short (n ∷ ns) are = (shape_short n are.0, bare_short ns are.1)
-
-    sewn_short : (ss : List SignedName) → AllByRecursion (IsShape shapes) (map name_of ss) → AllByRecursion IsShortMention (map sewn_mention ss)
-    sewn_short [] are = tt
-    sewn_short (s ∷ ss) are = (shape_short s.name are.0, sewn_short ss are.1)
-
-    are_bare : (ns : List ℕ) → AllByRecursion IsBare (map bare_mention ns)
-    are_bare [] = tt
-    are_bare (n ∷ ns) = (refl, are_bare ns)
-
-    side_sided : (t : Turn) → (t ≡ Forward) ⊎ (t ≡ Reversed) → (sign_for t ≡ None) ⊎ ((sign_for t ≡ Some Forward) ⊎ (sign_for t ≡ Some Reversed))
-    side_sided t (inl e) = inl (ap sign_for e)
-    side_sided t (inr e) = inr (inr (ap sign_for e))
-
-    are_sided : (ss : List SignedName) → AllByRecursion IsSide ss → AllByRecursion IsSided (map sewn_mention ss)
-    are_sided [] sides = tt
-    are_sided (s ∷ ss) sides = (side_sided s.turn sides.0, are_sided ss sides.1)
-
-    are_sewn : (ss : List SignedName) → AreSides ss → AreSewn (map sewn_mention ss)
-    are_sewn [] sides = tt
-    are_sewn (s ∷ ss) sides = (ap sign_for sides.0, are_sided ss sides.1)
-
-    bare_numbers : (ns : List ℕ) → map (λ (m : Mention). m.number) (map bare_mention ns) ≡ ns
-    bare_numbers [] = refl
-    bare_numbers (n ∷ ns) = ap (λ (z : List ℕ). n ∷ z) (bare_numbers ns)
-
-    sewn_numbers : (ss : List SignedName) → map (λ (m : Mention). m.number) (map sewn_mention ss) ≡ map name_of ss
-    sewn_numbers [] = refl
-    sewn_numbers (s ∷ ss) = ap (λ (z : List ℕ). s.name ∷ z) (sewn_numbers ss)
-
-    bare_long : (ns : List ℕ) → length (map bare_mention ns) ≡ length ns
-    bare_long ns = simp length-map
-
-    sewn_long : (ss : List SignedName) → length (map sewn_mention ss) ≡ length (map name_of ss)
-    sewn_long ss = simp length-map
-
-    pub legal : (c : Command) → HasLine shapes locations c → IsLegal (phrase_for c)
-    legal (commands.Replace sel tgt) has =
-        (shape_short sel.name has.0.0, (place_short sel.place has.0.1, (shape_short tgt.name has.1.0, place_short (location_for sel.place tgt.location) (written_if (tgt.location == unwrap_or sel.place 0) tgt.location has.1.1))))
-    legal (commands.Remove sel) has = (shape_short sel.name has.0, place_short sel.place has.1)
-    legal (commands.Merge names) has = (
-      record {
-        short = bare_short names has.are_shapes;
-        some = subst (λ (n : ℕ). 2 ≤ n) (sym (bare_long names)) has.some;
-        distinct = subst (AllPairs (λ x y. x ≢ y)) (sym (bare_numbers names)) has.distinct;
-      },
-      are_bare names,
-    )
-    legal (commands.Sew names) has = (
-      record {
-        short = sewn_short names has.0.are_shapes;
-        some = subst (λ (n : ℕ). 2 ≤ n) (sym (sewn_long names)) has.0.some;
-        distinct = subst (AllPairs (λ x y. x ≢ y)) (sym (sewn_numbers names)) has.0.distinct;
-      },
-      are_sewn names has.1,
-    )
-    legal commands.Apply has = tt
-    legal commands.Undo has = tt
-
-    module _ (lines : LinesSpellOneCommand) (plain : WrittenIsRead) where
-      read_back : (p : Phrase) → IsLegal p → fault_of shapes locations p ≡ None → command_of_line shapes locations (join_with_byte 32 (spelling p)) ≡ Ok (Some (meaning_of p))
-      read_back p is_legal free =
-          let read : phrase_of (spelling p) ≡ Some p = (lines.read (spelling p) p).1 (record { spelled = refl; legal = is_legal }) in
-          rw (spelling_back plain p, spelling_says p, read, free) refl
-
-      pub line_back : (c : Command) → HasLine shapes locations c → IsLineOf shapes locations (line_of_command c) c
-      line_back c has =
-          read_back (phrase_for c) (legal c has) (fault_free c has)
-          ∙ ap gives (meaning_back c)
+use Rattle.script_text.proofs.WrittenWords.{joined_size, line_size_fits, size_of}
+use Rattle.script_text.proofs.WrittenMeaning.{gives, line_back}
 
 -- ---- only such commands are given by lines
 
@@ -224,18 +68,21 @@ module _ (shapes locations : ℕ) where
       let both = first_none (shape_fault shapes m.number) (location_fault locations o) e in
       record { shape = shape_there m.number both.0; place = place_there o both.1 }
 
-  location_there : (l place : Option ℕ) → MayBePlace locations l → MayBePlace locations place → unwrap_or l (unwrap_or place 0) ≤ locations
+  location_there : (l place : Option ℕ) → MayBePlace locations l → MayBePlace locations place
+      → unwrap_or l (unwrap_or place 0) ≤ locations
   location_there (Some n) place is may = is
   location_there None (Some n) is may = may
   location_there None None is may = omega arith
 
-  bare_there : (ms : List Mention) → mentions_fault shapes ms ≡ None → AllByRecursion (IsShape shapes) (map number_of_mention ms)
+  bare_there : (ms : List Mention) → mentions_fault shapes ms ≡ None
+      → AllByRecursion (IsShape shapes) (map number_of_mention ms)
   bare_there [] e = tt
   bare_there (m ∷ ms) e =
       let both = first_none (shape_fault shapes m.number) (mentions_fault shapes ms) e in
       (shape_there m.number both.0, bare_there ms both.1)
 
-  sewn_there : (ms : List Mention) → mentions_fault shapes ms ≡ None → AllByRecursion (IsShape shapes) (map name_of (map signed_name ms))
+  sewn_there : (ms : List Mention) → mentions_fault shapes ms ≡ None
+      → AllByRecursion (IsShape shapes) (map name_of (map signed_name ms))
   sewn_there [] e = tt
   sewn_there (m ∷ ms) e =
       let both = first_none (shape_fault shapes m.number) (mentions_fault shapes ms) e in
@@ -245,7 +92,8 @@ module _ (shapes locations : ℕ) where
   names_of_sewn [] = refl
   names_of_sewn (m ∷ ms) = ap (λ (z : List ℕ). m.number ∷ z) (names_of_sewn ms)
 
-  sided_side : (s : Option Turn) → (s ≡ None) ⊎ ((s ≡ Some Forward) ⊎ (s ≡ Some Reversed)) → (unwrap_or s Forward ≡ Forward) ⊎ (unwrap_or s Forward ≡ Reversed)
+  sided_side : (s : Option Turn) → (s ≡ None) ⊎ ((s ≡ Some Forward) ⊎ (s ≡ Some Reversed))
+      → (unwrap_or s Forward ≡ Forward) ⊎ (unwrap_or s Forward ≡ Reversed)
   sided_side s (inl e) = inl (rw e refl)
   sided_side s (inr (inl e)) = inl (rw e refl)
   sided_side s (inr (inr e)) = inr (rw e refl)
@@ -272,7 +120,12 @@ module _ (shapes locations : ℕ) where
       ((source.shape, source.place), (target.shape, location_there l place target.place source.place))
   meant_there (Remove s place) is e = (let source = selection_there s place e in (source.shape, source.place))
   meant_there (Merge ms) is e =
-      record { are_shapes = bare_there ms e; some = subst (λ (n : ℕ). 2 ≤ n) (sym (bare_count ms)) is.0.some; distinct = is.0.distinct }
+      record {
+        are_shapes = bare_there ms e;
+        some = subst (λ (n : ℕ). 2 ≤ n) (sym (bare_count ms)) is.0.some;
+        distinct =
+            is.0.distinct;
+      }
   meant_there (Sew ms) is e = (
     record {
       are_shapes = sewn_there ms e;
@@ -285,7 +138,8 @@ module _ (shapes locations : ℕ) where
   meant_there Undo is e = tt
 
   module _ (lines : LinesSpellOneCommand) where
-    command_there : (line : List ℕ) (c : Command) → IsLineOf shapes locations line c → IsCommandOf shapes locations (words_of line) c
+    command_there : (line : List ℕ) (c : Command) → IsLineOf shapes locations line c
+        → IsCommandOf shapes locations (words_of line) c
     command_there line c e = subst (Answers shapes locations (words_of line)) e (answers lines shapes locations line)
 
     pub only_there : (line : List ℕ) (c : Command) → IsLineOf shapes locations line c → HasLine shapes locations c
@@ -295,14 +149,16 @@ module _ (shapes locations : ℕ) where
 
 -- ---- no line of a command is shorter than the one that is written
 
-sign_shorter : (s : Option Turn) (n : ℕ) → length (spell_mention (mention_for n (sign_for (unwrap_or s Forward)))) ≤ length (spell_mention (mention_for n s))
+sign_shorter : (s : Option Turn) (n : ℕ) → length (spell_mention (mention_for n (sign_for (unwrap_or s Forward))))
+    ≤ length (spell_mention (mention_for n s))
 sign_shorter None n = omega arith
 sign_shorter (Some Forward) n = omega arith
 sign_shorter (Some Reversed) n = omega arith
 sign_shorter (Some Internal) n = omega arith
 sign_shorter (Some External) n = omega arith
 
-number_shorter : (word : List ℕ) (b : Bool) (n : ℕ) → size_of (spell_number word (if b then None else Some n)) ≤ size_of (spell_number word (Some n))
+number_shorter : (word : List ℕ) (b : Bool) (n : ℕ) → size_of (spell_number word (if b then None else Some n))
+    ≤ size_of (spell_number word (Some n))
 number_shorter word true n = omega arith
 number_shorter word false n = omega arith
 
@@ -313,7 +169,9 @@ nothing_to_say n =
       | inr other ↦ absurd (other.1 refl)
     ]
 
-location_shorter : (l place : Option ℕ) → size_of (spell_number (codes "loc") (location_for place (unwrap_or l (unwrap_or place 0)))) ≤ size_of (spell_number (codes "loc") l)
+location_shorter : (l place : Option ℕ)
+    → size_of (spell_number (codes "loc") (location_for place (unwrap_or l (unwrap_or place 0))))
+    ≤ size_of (spell_number (codes "loc") l)
 location_shorter None place = rw (nothing_to_say (unwrap_or place 0)) (omega arith)
 location_shorter (Some n) place = number_shorter (codes "loc") (n == unwrap_or place 0) n
 
@@ -321,14 +179,17 @@ size-append : (xs ys : List (List ℕ)) → size_of (xs ++ ys) ≡ size_of xs + 
 size-append [] ys = omega arith
 size-append (x ∷ xs) ys = (let rest = size-append xs ys in omega (arith, rest))
 
-bare_shorter : (ms : List Mention) → AllByRecursion IsBare ms → size_of (map spell_mention (map bare_mention (map number_of_mention ms))) ≤ size_of (map spell_mention ms)
+bare_shorter : (ms : List Mention) → AllByRecursion IsBare ms
+    → size_of (map spell_mention (map bare_mention (map number_of_mention ms))) ≤ size_of (map spell_mention ms)
 bare_shorter [] are = omega arith
 bare_shorter (m ∷ ms) are =
     let rest = bare_shorter ms are.1 in
-    let first : length (spell_mention (bare_mention m.number)) ≡ length (spell_mention m) = ap (λ (s : Option Turn). length (spell_mention (mention_for m.number s))) (sym are.0) in
+    let first : length (spell_mention (bare_mention m.number)) ≡ length (spell_mention m) =
+    ap (λ (s : Option Turn). length (spell_mention (mention_for m.number s))) (sym are.0) in
     omega (arith, rest, first)
 
-sewn_shorter : (ms : List Mention) → size_of (map spell_mention (map sewn_mention (map signed_name ms))) ≤ size_of (map spell_mention ms)
+sewn_shorter : (ms : List Mention) → size_of (map spell_mention (map sewn_mention (map signed_name ms)))
+    ≤ size_of (map spell_mention ms)
 sewn_shorter [] = omega arith
 sewn_shorter (m ∷ ms) =
     let rest = sewn_shorter ms in
@@ -339,8 +200,11 @@ phrase_shorter : (p : Phrase) → IsLegal p → size_of (spelling (phrase_for (m
 phrase_shorter (Replace s place t l) is =
     let target = sign_shorter t.sign t.number in
     let at = location_shorter l place in
-    let whole = size-append (spell_number (codes "at") place) (codes "by" ∷ spell_mention t ∷ spell_number (codes "loc") l) in
-    let written = size-append (spell_number (codes "at") place) (codes "by" ∷ spell_mention (mention_for t.number (sign_for (unwrap_or t.sign Forward))) ∷ spell_number (codes "loc") (location_for place (unwrap_or l (unwrap_or place 0)))) in
+    let whole = size-append (spell_number (codes "at") place)
+    (codes "by" ∷ spell_mention t ∷ spell_number (codes "loc") l) in
+    let written = size-append (spell_number (codes "at") place)
+    (codes "by" ∷ spell_mention (mention_for t.number (sign_for (unwrap_or t.sign Forward))) ∷ spell_number
+    (codes "loc") (location_for place (unwrap_or l (unwrap_or place 0)))) in
     omega (arith, target, at, whole, written)
 phrase_shorter (Remove s place) is = omega arith
 phrase_shorter (Merge ms) is = (let all = bare_shorter ms is.1 in omega (arith, all))
@@ -356,7 +220,8 @@ spelled_some (Sew ms) = omega arith
 spelled_some Apply = omega arith
 spelled_some Undo = omega arith
 
-line_shorter : (line : List ℕ) (p : Phrase) → Spells (words_of line) p → length (line_of_command (meaning_of p)) ≤ length line
+line_shorter : (line : List ℕ) (p : Phrase) → Spells (words_of line) p
+    → length (line_of_command (meaning_of p)) ≤ length line
 line_shorter line p is =
     let shorter = phrase_shorter p is.legal in
     let written = joined_size (spelling (phrase_for (meaning_of p))) (spelled_some (phrase_for (meaning_of p))) in
@@ -373,9 +238,12 @@ module _ (lines : LinesSpellOneCommand) (plain : WrittenIsRead) where
     back = line_back shapes locations few_shapes few_locations lines plain;
     only = only_there shapes locations lines;
     shortest = λ line c e. (let is = command_there shapes locations lines line c e in
-        subst (λ (d : Command). length (line_of_command d) ≤ length line) (sym is.1.1.1) (line_shorter line is.0 is.1.0));
+        subst (λ (d : Command). length (line_of_command d) ≤ length line) (sym is.1.1.1)
+        (line_shorter line is.0 is.1.0));
     told = λ c d has_c has_d same. same_command c d
-        (sym (line_back shapes locations few_shapes few_locations lines plain c has_c) ∙ ap (command_of_line shapes locations) same ∙ line_back shapes locations few_shapes few_locations lines plain d has_d);
+        (sym (line_back shapes locations few_shapes few_locations lines plain c has_c)
+        ∙ ap (command_of_line shapes locations) same ∙ line_back shapes locations few_shapes few_locations lines
+        plain d has_d);
   }
 
   pub commands_have_lines : CommandsHaveLines

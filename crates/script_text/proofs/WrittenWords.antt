@@ -1,5 +1,6 @@
 -- Words that are joined by one space are the words of the line; and no line of these words is shorter.
-use Rattle.std.proofs.Common.{◌≡◌, ℕ, ◌+◌, ◌<◌, ◌≤◌, Bool, true, false, ◌&&◌, List, [], ◌∷◌, ◌++◌, length, map, codes, Option, Some, None, refl, sym, ap, ◌∙◌, append_assoc, arith}
+use Rattle.std.proofs.Common.{◌≡◌, ℕ, ◌+◌, ◌<◌, ◌≤◌, Bool, true, false, ◌&&◌, List, [], ◌∷◌, ◌++◌, length, map, codes}
+use Rattle.std.proofs.Common.{Option, Some, None, refl, sym, ap, ◌∙◌, append_assoc, arith}
 use Rattle.std.specs.Fmt.{decimal}
 use Rattle.std.specs.List.{AllByRecursion, join_with_byte, list_all}
 use Rattle.std.proofs.lemmas.Bool.{ltb-true}
@@ -26,21 +27,26 @@ dark_unblank b h = grind (arith, nat_tests)
 
 -- ---- the words of a line
 
-ends_here : (x : Bool) (b : ℕ) (bs : List ℕ) → starts_blank bs ≡ x → x ≡ true → is_blank b ≡ false → words_of (b ∷ bs) ≡ (b ∷ []) ∷ words_of bs
+ends_here : (x : Bool) (b : ℕ) (bs : List ℕ) → starts_blank bs ≡ x → x ≡ true → is_blank b ≡ false
+    → words_of (b ∷ bs) ≡ (b ∷ []) ∷ words_of bs
 ends_here true b bs starts is dark = rw (dark, starts) refl
 ends_here false b bs starts is dark = absurd cc
 
-goes_on : (b : ℕ) (bs w : List ℕ) (ws : List (List ℕ)) → starts_blank bs ≡ false → is_blank b ≡ false → words_of bs ≡ w ∷ ws → words_of (b ∷ bs) ≡ (b ∷ w) ∷ ws
+goes_on : (b : ℕ) (bs w : List ℕ) (ws : List (List ℕ)) → starts_blank bs ≡ false → is_blank b ≡ false
+    → words_of bs ≡ w ∷ ws → words_of (b ∷ bs) ≡ (b ∷ w) ∷ ws
 goes_on b bs w ws starts dark e = rw (dark, starts, e) refl
 
 -- a word before a blank, or at the end
-word_then : (w rest : List ℕ) → 0 < length w → list_all is_dark w ≡ true → starts_blank rest ≡ true → words_of (w ++ rest) ≡ w ∷ words_of rest
+word_then : (w rest : List ℕ) → 0 < length w → list_all is_dark w ≡ true → starts_blank rest ≡ true
+    → words_of (w ++ rest) ≡ w ∷ words_of rest
 word_then [] rest some dark ends = absurd (omega (arith, some))
-word_then (b ∷ []) rest some dark ends = ends_here true b rest ends refl (dark_unblank b (both_true (is_dark b) true dark).0)
+word_then (b ∷ []) rest some dark ends =
+    ends_here true b rest ends refl (dark_unblank b (both_true (is_dark b) true dark).0)
 word_then (b ∷ c ∷ w) rest some dark ends =
     let first = both_true (is_dark b) (list_all is_dark (c ∷ w)) dark in
     let second = both_true (is_dark c) (list_all is_dark w) first.1 in
-    goes_on b (c ∷ w ++ rest) (c ∷ w) (words_of rest) (dark_unblank c second.0) (dark_unblank b first.0) (word_then (c ∷ w) rest (omega arith) first.1 ends)
+    goes_on b (c ∷ w ++ rest) (c ∷ w) (words_of rest) (dark_unblank c second.0) (dark_unblank b first.0)
+    (word_then (c ∷ w) rest (omega arith) first.1 ends)
 
 dark_word : (w : List ℕ) → IsDarkWord w → (0 < length w) × (list_all is_dark w ≡ true)
 dark_word w is = (let both = both_true _ (list_all is_dark w) is in (ltb-true 0 (length w) both.0, both.1))
@@ -52,7 +58,8 @@ words_back (w ∷ []) dark =
     ap words_of (sym (append-nil w)) ∙ word_then w [] is.0 is.1 refl
 words_back (w ∷ v ∷ ws) dark =
     let is = dark_word w dark.0 in
-    word_then w (32 ∷ join_with_byte 32 (v ∷ ws)) is.0 is.1 refl ∙ ap (λ (z : List (List ℕ)). w ∷ z) (words_back (v ∷ ws) dark.1)
+    word_then w (32 ∷ join_with_byte 32 (v ∷ ws)) is.0 is.1 refl ∙ ap (λ (z : List (List ℕ)). w ∷ z)
+    (words_back (v ∷ ws) dark.1)
 
 -- the first word, and each other one after a space
 pub joined_is : (w : List ℕ) (ws : List (List ℕ)) → join_with_byte 32 (w ∷ ws) ≡ w ++ after_spaces ws
@@ -61,12 +68,15 @@ joined_is w (v ∷ ws) = ap (λ (z : List ℕ). w ++ 32 ∷ z) (joined_is v ws)
 
 pub after_both : (xs ys : List (List ℕ)) → after_spaces (xs ++ ys) ≡ after_spaces xs ++ after_spaces ys
 after_both [] ys = refl
-after_both (x ∷ xs) ys = ap (λ (z : List ℕ). (32 ∷ x) ++ z) (after_both xs ys) ∙ sym (append_assoc (32 ∷ x) (after_spaces xs) (after_spaces ys))
+after_both (x ∷ xs) ys = ap (λ (z : List ℕ). (32 ∷ x) ++ z) (after_both xs ys)
+    ∙ sym (append_assoc (32 ∷ x) (after_spaces xs) (after_spaces ys))
 
-pub joined_after : (old begun done verb : List ℕ) (ws vs : List (List ℕ)) → begun ≡ old ++ verb → ws ≡ vs → done ≡ begun ++ after_spaces ws → done ≡ old ++ join_with_byte 32 (verb ∷ vs)
+pub joined_after : (old begun done verb : List ℕ) (ws vs : List (List ℕ)) → begun ≡ old ++ verb → ws ≡ vs
+    → done ≡ begun ++ after_spaces ws → done ≡ old ++ join_with_byte 32 (verb ∷ vs)
 joined_after old begun done verb ws vs begins same whole =
     whole ∙ ap (λ (z : List ℕ). z ++ after_spaces ws) begins ∙ append_assoc old verb (after_spaces ws)
-    ∙ ap (λ (z : List (List ℕ)). old ++ (verb ++ after_spaces z)) same ∙ ap (λ (z : List ℕ). old ++ z) (sym (joined_is verb vs))
+    ∙ ap (λ (z : List (List ℕ)). old ++ (verb ++ after_spaces z)) same ∙ ap (λ (z : List ℕ). old ++ z)
+    (sym (joined_is verb vs))
 
 -- ---- the words of a phrase
 
@@ -94,7 +104,8 @@ module _ (written : WrittenIsRead) where
   mentions_dark [] = tt
   mentions_dark (m ∷ ms) = (mention_dark m, mentions_dark ms)
 
-  number_then : (word : List ℕ) (o : Option ℕ) (rest : List (List ℕ)) → IsDarkWord word → AllByRecursion IsDarkWord rest → AllByRecursion IsDarkWord (spell_number word o ++ rest)
+  number_then : (word : List ℕ) (o : Option ℕ) (rest : List (List ℕ)) → IsDarkWord word → AllByRecursion IsDarkWord rest
+      → AllByRecursion IsDarkWord (spell_number word o ++ rest)
   number_then word None rest is further = further
   number_then word (Some n) rest is further = (is, (number_dark n, further))
 

@@ -14,7 +14,8 @@ IsFaulty shapes locations words f = (p : Phrase) × (Spells words p × (fault_of
 
 -- the words spell a phrase with all numbers in range, and it means this command
 abbrev pub IsCommandOf : ℕ → ℕ → List (List ℕ) → Command → Type 0
-IsCommandOf shapes locations words c = (p : Phrase) × (Spells words p × ((fault_of shapes locations p ≡ None) × (c ≡ meaning_of p)))
+IsCommandOf shapes locations words c = (p : Phrase)
+    × (Spells words p × ((fault_of shapes locations p ≡ None) × (c ≡ meaning_of p)))
 
 abbrev pub Answers : ℕ → ℕ → List (List ℕ) → Result (Option Command) LineFault → Type 0
 Answers shapes locations words (Ok None) = is_nothing words ≡ true

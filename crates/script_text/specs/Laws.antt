@@ -18,14 +18,18 @@ pub record LinesSpellOneCommand : Type 0 where
 abbrev pub IsLineOf : ℕ → ℕ → List ℕ → Command → Type 0
 IsLineOf shapes locations line c = command_of_line shapes locations line ≡ Ok (Some c)
 
--- Over any numbers of records and locations that a line can name: a command that a line gives is given by the line that is
--- written for it; each command whose numbers are in range has that line, and only such a command is given by a line; no line
+-- Over any numbers of records and locations that a line can name: a command that a line gives is given by the line that
+-- is
+-- written for it; each command whose numbers are in range has that line, and only such a command is given by a line; no
+-- line
 -- of the command is shorter, and no other command has its line.
 pub record CommandsAreWritten (shapes locations : ℕ) : Type 0 where
   pub back : (c : Command) → HasLine shapes locations c → IsLineOf shapes locations (line_of_command c) c
   pub only : (line : List ℕ) (c : Command) → IsLineOf shapes locations line c → HasLine shapes locations c
-  pub shortest : (line : List ℕ) (c : Command) → IsLineOf shapes locations line c → length (line_of_command c) ≤ length line
-  pub told : (c d : Command) → HasLine shapes locations c → HasLine shapes locations d → line_of_command c ≡ line_of_command d → c ≡ d
+  pub shortest : (line : List ℕ) (c : Command) → IsLineOf shapes locations line c
+      → length (line_of_command c) ≤ length line
+  pub told : (c d : Command) → HasLine shapes locations c → HasLine shapes locations d
+      → line_of_command c ≡ line_of_command d → c ≡ d
 
 -- Commands and their lines stand for one another.
 abbrev pub CommandsHaveLines : Type 0

@@ -1,5 +1,6 @@
 -- The lines of a script.
-use Rattle.std.specs.Prelude.{ℕ, ◌+◌, suc, Bool, true, false, ◌&&◌, ◌==◌, if◌then◌else◌, List, [], ◌∷◌, count_by, length, nat_lt, slice_index, take, ◌-◌}
+use Rattle.std.specs.Prelude.{ℕ, ◌+◌, suc, Bool, true, false, ◌&&◌, ◌==◌, if◌then◌else◌, List, [], ◌∷◌, count_by}
+use Rattle.std.specs.Prelude.{length, nat_lt, slice_index, take, ◌-◌}
 
 -- does a line end directly here
 abbrev pub starts_line_end : List ℕ → Bool
@@ -34,4 +35,5 @@ line_size (b ∷ bs) = if b == 10 then 0 else suc (line_size bs)
 
 -- a line without one byte 13 at its end
 abbrev pub before_return : List ℕ → List ℕ
-before_return line = if nat_lt 0 (length line) && (slice_index line (length line - 1) == 13) then take (length line - 1) line else line
+before_return line = if nat_lt 0 (length line) && (slice_index line (length line - 1) == 13)
+    then take (length line - 1) line else line

@@ -1,5 +1,6 @@
 -- What a phrase means, and which of its numbers is out of range.
-use Rattle.std.specs.Prelude.{◌≡◌, ◌⊎◌, ℕ, ◌&&◌, nat_le, if◌then◌else◌, unwrap_or, List, [], ◌∷◌, map, MatchResult, Option, Some, None, Result, Ok, Err}
+use Rattle.std.specs.Prelude.{◌≡◌, ◌⊎◌, ℕ, ◌&&◌, nat_le, if◌then◌else◌, unwrap_or, List, [], ◌∷◌, map, MatchResult}
+use Rattle.std.specs.Prelude.{Option, Some, None, Result, Ok, Err}
 use Rattle.orientation.specs.declared.turn.Turn.{Turn}
 use Rattle.orientation.specs.declared.turn.Turn.TheVariants.{Forward}
 use Rattle.script_text.specs.Reading.{phrase_of}
@@ -32,10 +33,16 @@ selection m place = record { name = m.number; turn = m.sign; place = place }
 
 -- without `loc` the location is that of `at`, and 0 without both
 abbrev pub target_of : Mention → Option ℕ → Option ℕ → Tgt
-target_of m place location = record { name = m.number; turn = turn_of_mention m; location = unwrap_or location (unwrap_or place 0) }
+target_of m place location = record {
+  name = m.number;
+  turn = turn_of_mention m;
+  location =
+      unwrap_or location (unwrap_or place 0);
+}
 
 abbrev pub meaning_of : Phrase → Command
-meaning_of (Replace source place target location) = commands.Replace (selection source place) (target_of target place location)
+meaning_of (Replace source place target location) =
+    commands.Replace (selection source place) (target_of target place location)
 meaning_of (Remove source place) = commands.Remove (selection source place)
 meaning_of (Merge ms) = commands.Merge (map number_of_mention ms)
 meaning_of (Sew ms) = commands.Sew (map signed_name ms)
@@ -96,9 +103,14 @@ OrNoMemory f P = (f ≡ NoMemory) ⊎ P
 abbrev pub Tells : {A : Type 0} → Option LineFault → A → Result A LineFault → Type 0
 Tells fault value result = MatchResult result (λ x. (fault ≡ None) × (x ≡ value)) (λ f. fault ≡ Some f)
 
+-- the command that a phrase means, where none of its numbers is out of range; else the fault
+abbrev pub TellsCommand : ℕ → ℕ → Phrase → Result Command LineFault → Type 0
+TellsCommand shapes locations phrase result = Tells (fault_of shapes locations phrase) (meaning_of phrase) result
+
 -- so, or memory is wanted
 abbrev pub TellsOrWants : {A : Type 0} → Option LineFault → A → Result A LineFault → Type 0
-TellsOrWants fault value result = MatchResult result (λ x. (fault ≡ None) × (x ≡ value)) (λ f. OrNoMemory f (fault ≡ Some f))
+TellsOrWants fault value result = MatchResult result (λ x. (fault ≡ None) × (x ≡ value))
+    (λ f. OrNoMemory f (fault ≡ Some f))
 
 -- the answer is this, or memory is wanted
 abbrev pub Gives : Result (Option Command) LineFault → Result (Option Command) LineFault → Type 0

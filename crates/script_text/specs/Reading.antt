@@ -1,12 +1,14 @@
 -- What the words of a line say, computed.
-use Rattle.std.specs.Prelude.{ℕ, Bool, true, false, ◌==◌, ◌&&◌, not, nat_le, is_none, if◌then◌else◌, List, [], ◌∷◌, ◌++◌, length, codes, Option, Some, None}
+use Rattle.std.proofs.Common.{Bor}
+use Rattle.std.specs.Prelude.{◌≡◌, MatchOption, ℕ, Bool, true, false, ◌==◌, ◌&&◌, not, nat_le, is_none, if◌then◌else◌}
+use Rattle.std.specs.Prelude.{List, [], ◌∷◌, ◌++◌, length, codes, Option, Some, None}
 use Rattle.std.specs.List.{list_all, list_any}
 use Rattle.std.specs.Option.{option_and_then}
 use Rattle.brep_tokens.specs.Forms.{number_of}
 use Rattle.orientation.specs.Turns.{turn_of}
 use Rattle.orientation.specs.declared.turn.Turn.{Turn}
 use Rattle.orientation.specs.declared.turn.Turn.TheVariants as turns
-use Rattle.script_text.specs.Words.{is_word}
+use Rattle.script_text.specs.Words.{is_word, words_of}
 use Rattle.script_text.specs.declared.phrase.Mention.{Mention}
 use Rattle.script_text.specs.declared.phrase.Phrase.{Phrase}
 use Rattle.script_text.specs.declared.phrase.Phrase.TheVariants.{Replace, Remove, Merge, Sew, Apply, Undo}
@@ -44,6 +46,14 @@ abbrev pub before : {A : Type 0} → List (List ℕ) → Option A → Option (A 
 before rest None = None
 before rest (Some x) = Some (x, rest)
 
+-- what the words at the front of a line say, and a line with the words that follow; or they don't say it
+abbrev pub ReadsFront : {A : Type 0} → Option (A × List (List ℕ)) → Option (A × Bor (List ℕ)) → Type 0
+ReadsFront due result = MatchOption result (due ≡ None) (λ r. due ≡ Some (r.0, words_of r.1.now))
+
+-- a line with these words; or there are none
+abbrev pub LeavesWords : Option (List (List ℕ)) → Option (Bor (List ℕ)) → Type 0
+LeavesWords due result = MatchOption result (due ≡ None) (λ r. due ≡ Some (words_of r.now))
+
 abbrev pub mention_in : List (List ℕ) → Option (Mention × List (List ℕ))
 mention_in [] = None
 mention_in (w ∷ ws) = before ws (mention_of w)
@@ -74,16 +84,19 @@ alone p (w ∷ ws) = None
 
 abbrev pub removal_in : List (List ℕ) → Option Phrase
 removal_in ws =
-    option_and_then (λ s. option_and_then (λ p. alone (Remove s.0 p.0) p.1) (number_after (codes "at") s.1)) (mention_in ws)
+    option_and_then (λ s. option_and_then (λ p. alone (Remove s.0 p.0) p.1) (number_after (codes "at") s.1))
+    (mention_in ws)
 
 -- after `by`, with the source and its place
 abbrev pub target_in : Mention → Option ℕ → List (List ℕ) → Option Phrase
 target_in source place ws =
-    option_and_then (λ t. option_and_then (λ l. alone (Replace source place t.0 l.0) l.1) (number_after (codes "loc") t.1)) (mention_in ws)
+    option_and_then (λ t. option_and_then (λ l. alone (Replace source place t.0 l.0) l.1)
+    (number_after (codes "loc") t.1)) (mention_in ws)
 
 abbrev pub replacement_in : List (List ℕ) → Option Phrase
 replacement_in ws =
-    option_and_then (λ s. option_and_then (λ p. option_and_then (target_in s.0 p.0) (after_word (codes "by") p.1)) (number_after (codes "at") s.1)) (mention_in ws)
+    option_and_then (λ s. option_and_then (λ p. option_and_then (target_in s.0 p.0) (after_word (codes "by") p.1))
+    (number_after (codes "at") s.1)) (mention_in ws)
 
 -- all words as mentions, after these
 abbrev pub mentions_from : List Mention → List (List ℕ) → Option (List Mention)

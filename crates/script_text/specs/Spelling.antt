@@ -1,5 +1,6 @@
 -- Which words spell which command.
-use Rattle.std.specs.Prelude.{◌≡◌, ◌≢◌, ◌⊎◌, ℕ, ◌^◌, ◌<◌, ◌≤◌, List, [], ◌∷◌, ◌++◌, length, map, codes, Option, Some, None, AllPairs}
+use Rattle.std.specs.Prelude.{◌≡◌, ◌≢◌, ◌⊎◌, ℕ, ◌^◌, ◌<◌, ◌≤◌, List, [], ◌∷◌, ◌++◌, length, map, codes, Option, Some}
+use Rattle.std.specs.Prelude.{None, AllPairs}
 use Rattle.std.specs.List.{AllByRecursion}
 use Rattle.std.specs.Fmt.{decimal}
 use Rattle.orientation.specs.Turns.{sign_of}
@@ -22,10 +23,12 @@ abbrev pub spell_number : List ℕ → Option ℕ → List (List ℕ)
 spell_number word None = []
 spell_number word (Some n) = word ∷ decimal n ∷ []
 
--- `replace S by T`, `replace S at L by T`, both perhaps with `loc N`; `remove S`, `remove S at L`; `merge K K ..`; `sew K M ..`; `apply`; `undo`
+-- `replace S by T`, `replace S at L by T`, both perhaps with `loc N`; `remove S`, `remove S at L`; `merge K K ..`; `sew
+-- K M ..`; `apply`; `undo`
 abbrev pub spelling : Phrase → List (List ℕ)
 spelling (Replace source place target location) =
-    codes "replace" ∷ spell_mention source ∷ (spell_number (codes "at") place ++ (codes "by" ∷ spell_mention target ∷ spell_number (codes "loc") location))
+    codes "replace" ∷ spell_mention source
+    ∷ (spell_number (codes "at") place ++ (codes "by" ∷ spell_mention target ∷ spell_number (codes "loc") location))
 spelling (Remove source place) = codes "remove" ∷ spell_mention source ∷ spell_number (codes "at") place
 spelling (Merge mentions) = codes "merge" ∷ map spell_mention mentions
 spelling (Sew mentions) = codes "sew" ∷ map spell_mention mentions
@@ -65,7 +68,8 @@ pub record AreNamed (ms : List Mention) : Type 0 where
 
 -- what a phrase that stands in a script keeps to
 abbrev pub IsLegal : Phrase → Type 0
-IsLegal (Replace source place target location) = IsShortMention source × (MayBeShort place × (IsShortMention target × MayBeShort location))
+IsLegal (Replace source place target location) = IsShortMention source
+    × (MayBeShort place × (IsShortMention target × MayBeShort location))
 IsLegal (Remove source place) = IsShortMention source × MayBeShort place
 IsLegal (Merge ms) = AreNamed ms × AllByRecursion IsBare ms
 IsLegal (Sew ms) = AreNamed ms × AreSewn ms

@@ -1,5 +1,8 @@
 -- The words of a line.
-use Rattle.std.specs.Prelude.{ℕ, suc, Bool, true, false, ◌==◌, ◌||◌, if◌then◌else◌, nat_eq, List, [], ◌∷◌}
+use Rattle.std.specs.Prelude.{◌≡◌, ◌<◌, ℕ, suc, Bool, true, false, ◌==◌, ◌||◌, if◌then◌else◌, nat_eq, List, [], ◌∷◌}
+use Rattle.std.specs.Prelude.{length}
+use Rattle.std.specs.Prelude.{Option, MatchOption}
+use Rattle.std.proofs.Common.{Bor}
 use Rattle.std.specs.Cmp.Lexicographic.{pointwise}
 
 -- a space or a tab
@@ -22,6 +25,11 @@ words_of [] = []
 words_of (b ∷ bs) =
     if is_blank b then words_of bs
     else (if starts_blank bs then (b ∷ []) ∷ words_of bs else onto_word b (words_of bs))
+
+-- a line has no words; or this is its first word, and a shorter line has the words that follow
+abbrev pub SplitsFirst : List ℕ → Option (Bor (List ℕ) × Bor (List ℕ)) → Type 0
+SplitsFirst line result = MatchOption result (words_of line ≡ [])
+    (λ r. (words_of line ≡ r.0.now ∷ words_of r.1.now) × (length r.1.now < length line))
 
 abbrev pub starts_hash : List ℕ → Bool
 starts_hash [] = false

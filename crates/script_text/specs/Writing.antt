@@ -1,9 +1,10 @@
 -- The line that writes a command, and the commands that a line can give.
-use Rattle.std.specs.Prelude.{◌≡◌, ◌≢◌, ◌⊎◌, ℕ, ◌≤◌, ◌==◌, if◌then◌else◌, unwrap_or, List, [], ◌∷◌, length, map, Option, Some, None, AllPairs}
+use Rattle.std.specs.Prelude.{◌≡◌, ◌≢◌, ◌⊎◌, ℕ, ◌≤◌, ◌==◌, if◌then◌else◌, codes, unwrap_or, List, [], ◌∷◌, length, map}
+use Rattle.std.specs.Prelude.{Option, Some, None, AllPairs}
 use Rattle.std.specs.List.{AllByRecursion, flat_map, join_with_byte}
 use Rattle.orientation.specs.declared.turn.Turn.{Turn}
 use Rattle.orientation.specs.declared.turn.Turn.TheVariants.{Forward, Reversed, Internal, External}
-use Rattle.script_text.specs.Spelling.{spelling}
+use Rattle.script_text.specs.Spelling.{spell_mention, spell_number, spelling}
 use Rattle.script_text.specs.declared.command.Command.{Command}
 use Rattle.script_text.specs.declared.command.Command.TheVariants as commands
 use Rattle.script_text.specs.declared.command.Sel.{Sel}
@@ -35,10 +36,28 @@ sewn_mention s = mention_for s.name (sign_for s.turn)
 abbrev pub location_for : Option ℕ → ℕ → Option ℕ
 location_for place location = if location == unwrap_or place 0 then None else Some location
 
+-- the words of a source, perhaps with its place
+abbrev pub source_words : Sel → List (List ℕ)
+source_words sel = spell_mention (mention_for sel.name sel.turn) ∷ spell_number (codes "at") sel.place
+
+-- the words of a target, perhaps with its location, where the source has this place
+abbrev pub target_words : Option ℕ → Tgt → List (List ℕ)
+target_words place tgt = spell_mention (mention_for tgt.name (sign_for tgt.turn))
+    ∷ spell_number (codes "loc") (location_for place tgt.location)
+
+-- the words of names
+abbrev pub name_words : List ℕ → List (List ℕ)
+name_words names = map spell_mention (map bare_mention names)
+
+-- the words of names that are sewn
+abbrev pub sewn_words : List SignedName → List (List ℕ)
+sewn_words names = map spell_mention (map sewn_mention names)
+
 -- what is written for a command: no sign and no location that is meant without it
 abbrev pub phrase_for : Command → Phrase
 phrase_for (commands.Replace sel tgt) =
-    Replace (mention_for sel.name sel.turn) sel.place (mention_for tgt.name (sign_for tgt.turn)) (location_for sel.place tgt.location)
+    Replace (mention_for sel.name sel.turn) sel.place (mention_for tgt.name (sign_for tgt.turn))
+    (location_for sel.place tgt.location)
 phrase_for (commands.Remove sel) = Remove (mention_for sel.name sel.turn) sel.place
 phrase_for (commands.Merge names) = Merge (map bare_mention names)
 phrase_for (commands.Sew names) = Sew (map sewn_mention names)

@@ -2,7 +2,8 @@
 use crate::name_lists::{Names, SignedNames};
 use orientation::Turn;
 
-/// A record that is named, perhaps with the turn that is asked for, and the number of the place where alone it is meant.
+/// A record that is named, perhaps with the turn that is asked for, and the number of the place where alone it is
+/// meant.
 #[derive(Clone, Copy)]
 pub struct Sel {
     pub name: u32,
@@ -32,7 +33,8 @@ pub enum Command {
     Remove { sel: Sel },
     /// Two names or more, none of them twice.
     Merge(Names),
-    /// Two names or more, none of them twice. The turn of the first is forward, that of each other one forward or reversed.
+    /// Two names or more, none of them twice. The turn of the first is forward, that of each other one forward or
+    /// reversed.
     Sew(SignedNames),
     /// The end of a step.
     Apply,

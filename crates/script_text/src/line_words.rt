@@ -1,6 +1,6 @@
 //! The words of a line, found one after another.
-ghost use Rattle.std.specs.Prelude.{◌≡◌, ◌<◌, ◌≤◌, [], ◌∷◌, MatchOption, length, true, false};
-ghost use Rattle.script_text.specs.Words.{is_blank, is_nothing, starts_blank, word_size, words_of};
+ghost use Rattle.std.specs.Prelude.{◌≡◌, ◌<◌, ◌≤◌, length, true, false};
+ghost use Rattle.script_text.specs.Words.{SplitsFirst, is_blank, is_nothing, starts_blank, word_size, words_of};
 
 fn blank(b: u8) -> bool
     ensures { result ≡ is_blank b }
@@ -35,7 +35,7 @@ fn size_of_word(line: &[u8]) -> usize
 
 /// The first word of a line, and what follows it.
 pub(crate) fn first_word(line: &[u8]) -> Option<(&[u8], &[u8])>
-    ensures { MatchOption result (words_of line.now ≡ []) (λ r. (words_of line.now ≡ r.0.now ∷ words_of r.1.now) × (length r.1.now < length line.now)) }
+    ensures { SplitsFirst line.now result }
 {
     let dark = past_blanks(line);
     if dark.is_empty() {

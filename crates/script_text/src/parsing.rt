@@ -2,7 +2,9 @@
 ghost use Rattle.std.specs.Prelude.{◌≡◌, None, Ok, map, true};
 ghost use Rattle.script_text.specs.Answers.{Answers};
 ghost use Rattle.script_text.specs.Words.{is_nothing, words_of};
-ghost use Rattle.script_text.specs.Meaning.{Gives, Tells, TellsOrWants, command_of_line, fault_of, location_fault, meaning_of, mentions_fault, number_of_mention, selection, selection_fault, shape_fault, signed_name, turn_of_mention};
+ghost use Rattle.script_text.specs.Meaning.{Gives, Tells, TellsCommand, TellsOrWants, command_of_line, fault_of};
+ghost use Rattle.script_text.specs.Meaning.{location_fault, meaning_of, mentions_fault, number_of_mention, selection};
+ghost use Rattle.script_text.specs.Meaning.{selection_fault, shape_fault, signed_name, turn_of_mention};
 ghost use Rattle.script_text.specs.declared.phrase.Phrase.TheVariants.{Replace};
 
 use crate::command::{Command, LineFault, Sel, SignedName, Tgt};
@@ -71,7 +73,7 @@ fn replacement(
     shapes: u32,
     locations: u32,
 ) -> Result<Command, LineFault>
-    ensures { Tells (fault_of shapes locations (Replace source.now place target.now at)) (meaning_of (Replace source.now place target.now at)) result }
+    ensures { TellsCommand shapes locations (Replace source.now place target.now at) result }
 {
     let sel = selected(source, place, shapes, locations)?;
     let to = selected(target, at, shapes, locations)?;
@@ -158,8 +160,8 @@ fn parsed(
     }
 }
 
-/// The command that a line spells, over so many records and locations of a file; none for a line without words and for a
-/// comment, whose first word begins with `#`. Words are separated by spaces and tabs.
+/// The command that a line spells, over so many records and locations of a file; none for a line without words and for
+/// a comment, whose first word begins with `#`. Words are separated by spaces and tabs.
 pub fn parse(
     alloc: Global,
     line: &[u8],

@@ -3,7 +3,10 @@ ghost use Rattle.std.specs.Prelude.{◌≡◌, IfOk, MatchOption, None, Some, []
 ghost use Rattle.std.specs.List.{list_all};
 ghost use Rattle.std.specs.HashSet.{IsFromIterResult};
 ghost use Rattle.std.specs.Option.{option_and_then};
-ghost use Rattle.script_text.specs.Reading.{after_word, alone, are_distinct, are_named, are_sewn, is_bare, may_be_side, mention_in, mention_of, mentions_from, merge_of, number_after, number_in, phrase_of, removal_in, replacement_in, sewing_of, target_in, verb_of};
+ghost use Rattle.script_text.specs.Reading.{LeavesWords, ReadsFront, after_word, alone, are_distinct, are_named};
+ghost use Rattle.script_text.specs.Reading.{are_sewn, is_bare, may_be_side, mention_in, mention_of, mentions_from};
+ghost use Rattle.script_text.specs.Reading.{merge_of, number_after, number_in, phrase_of, removal_in, replacement_in};
+ghost use Rattle.script_text.specs.Reading.{sewing_of, target_in, verb_of};
 ghost use Rattle.script_text.specs.Words.{is_word, words_of};
 
 use crate::line_words::first_word;
@@ -72,7 +75,7 @@ fn mention(word: &[u8]) -> Option<Mention>
 }
 
 fn first_mention(line: &[u8]) -> Option<(Mention, &[u8])>
-    ensures { MatchOption result (mention_in (words_of line.now) ≡ None) (λ r. mention_in (words_of line.now) ≡ Some (r.0, words_of r.1.now)) }
+    ensures { ReadsFront (mention_in (words_of line.now)) result }
 {
     match first_word(line) {
         None => None,
@@ -84,7 +87,7 @@ fn first_mention(line: &[u8]) -> Option<(Mention, &[u8])>
 }
 
 fn first_number(line: &[u8]) -> Option<(Option<u64>, &[u8])>
-    ensures { MatchOption result (number_in (words_of line.now) ≡ None) (λ r. number_in (words_of line.now) ≡ Some (r.0, words_of r.1.now)) }
+    ensures { ReadsFront (number_in (words_of line.now)) result }
 {
     match first_word(line) {
         None => None,
@@ -97,7 +100,7 @@ fn first_number(line: &[u8]) -> Option<(Option<u64>, &[u8])>
 
 /// Perhaps the word `key` and a number, and what follows them.
 fn number_behind<'a>(key: &[u8], line: &'a [u8]) -> Option<(Option<u64>, &'a [u8])>
-    ensures { MatchOption result (number_after key.now (words_of line.now) ≡ None) (λ r. number_after key.now (words_of line.now) ≡ Some (r.0, words_of r.1.now)) }
+    ensures { ReadsFront (number_after key.now (words_of line.now)) result }
 {
     match first_word(line) {
         None => Some((None, line)),
@@ -111,7 +114,7 @@ fn number_behind<'a>(key: &[u8], line: &'a [u8]) -> Option<(Option<u64>, &'a [u8
 
 /// What follows the word `key`.
 fn behind<'a>(key: &[u8], line: &'a [u8]) -> Option<&'a [u8]>
-    ensures { MatchOption result (after_word key.now (words_of line.now) ≡ None) (λ r. after_word key.now (words_of line.now) ≡ Some (words_of r.now)) }
+    ensures { LeavesWords (after_word key.now (words_of line.now)) result }
 {
     match first_word(line) {
         None => None,

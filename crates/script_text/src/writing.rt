@@ -1,8 +1,9 @@
 //! The line that writes a command.
 ghost use Rattle.std.specs.Fmt.{decimal};
-ghost use Rattle.std.specs.Prelude.{◌≡◌, ◌∷◌, ◌++◌, IfOk, OnOk, codes, map};
+ghost use Rattle.std.specs.Prelude.{◌≡◌, ◌∷◌, ◌++◌, IfOk, OnOk};
 ghost use Rattle.script_text.specs.Spelling.{spell_mention, spell_number, spell_sign};
-ghost use Rattle.script_text.specs.Writing.{after_spaces, bare_mention, line_of_command, location_for, mention_for, sewn_mention, sign_for};
+ghost use Rattle.script_text.specs.Writing.{after_spaces, line_of_command, location_for, mention_for, name_words};
+ghost use Rattle.script_text.specs.Writing.{sewn_words, sign_for, source_words, target_words};
 ghost use Rattle.script_text.specs.declared.command.Command.TheVariants as commands;
 
 use crate::command::{Command, Sel, SignedName, Tgt};
@@ -72,8 +73,7 @@ fn push_number(line: &mut Vec<u8>, word: &[u8], number: Option<u32>) -> Result<(
 
 /// A source, perhaps with its place.
 fn push_source(line: &mut Vec<u8>, sel: &Sel) -> Result<(), AllocError>
-    ensures { OnOk result (line.new.items ≡ line.old.items
-        ++ after_spaces (spell_mention (mention_for sel.now.name sel.now.turn) ∷ spell_number (codes "at") sel.now.place)) }
+    ensures { OnOk result (line.new.items ≡ line.old.items ++ after_spaces (source_words sel.now)) }
 {
     push_mention(line, sel.turn, sel.name)?;
     push_number(line, b"at", sel.place)
@@ -81,15 +81,14 @@ fn push_source(line: &mut Vec<u8>, sel: &Sel) -> Result<(), AllocError>
 
 /// A target, perhaps with its location.
 fn push_target(line: &mut Vec<u8>, tgt: &Tgt, place: Option<u32>) -> Result<(), AllocError>
-    ensures { OnOk result (line.new.items ≡ line.old.items
-        ++ after_spaces (spell_mention (mention_for tgt.now.name (sign_for tgt.now.turn)) ∷ spell_number (codes "loc") (location_for place tgt.now.location))) }
+    ensures { OnOk result (line.new.items ≡ line.old.items ++ after_spaces (target_words place tgt.now)) }
 {
     push_mention(line, written_sign(tgt.turn), tgt.name)?;
     push_number(line, b"loc", written_location(place, tgt.location))
 }
 
 fn push_names(line: &mut Vec<u8>, names: &[u32]) -> Result<(), AllocError>
-    ensures { OnOk result (line.new.items ≡ line.old.items ++ after_spaces (map spell_mention (map bare_mention names.now))) }
+    ensures { OnOk result (line.new.items ≡ line.old.items ++ after_spaces (name_words names.now)) }
 {
     'names: for name in names {
         push_mention(line, None, *name)?;
@@ -98,7 +97,7 @@ fn push_names(line: &mut Vec<u8>, names: &[u32]) -> Result<(), AllocError>
 }
 
 fn push_sewn(line: &mut Vec<u8>, names: &[SignedName]) -> Result<(), AllocError>
-    ensures { OnOk result (line.new.items ≡ line.old.items ++ after_spaces (map spell_mention (map sewn_mention names.now))) }
+    ensures { OnOk result (line.new.items ≡ line.old.items ++ after_spaces (sewn_words names.now)) }
 {
     'names: for named in names {
         push_mention(line, written_sign(named.turn), named.name)?;
@@ -153,8 +152,9 @@ fn push_command(line: &mut Vec<u8>, command: &Command) -> Result<(), AllocError>
     }
 }
 
-/// The line that writes a command, without an end: its words with one space between neighbours, no sign where `+` is meant
-/// without it, and `loc` only where the location isn't the one that is meant without it. No line of the command is shorter.
+/// The line that writes a command, without an end: its words with one space between neighbours, no sign where `+` is
+/// meant without it, and `loc` only where the location isn't the one that is meant without it. No line of the command
+/// is shorter.
 pub fn spell(alloc: Global, command: &Command) -> Result<Vec<u8>, AllocError>
     ensures { IfOk result (λ line. line.items ≡ line_of_command command.now) }
 {

@@ -1,5 +1,6 @@
 -- A representation of an edge is read exactly as it is spelled.
-use Rattle.std.proofs.Common.{◌≡◌, ◌==◌, ℕ, zero, suc, ◌<◌, Bool, true, false, if◌then◌else◌, List, [], ◌∷◌, ◌++◌, Option, Some, None, Ok, codes, refl, sym, ap, subst, ◌∙◌, arith}
+use Rattle.std.proofs.Common.{◌≡◌, ◌==◌, ℕ, zero, suc, ◌<◌, Bool, true, false, if◌then◌else◌, List, [], ◌∷◌, ◌++◌}
+use Rattle.std.proofs.Common.{Option, Some, None, Ok, codes, refl, sym, ap, subst, ◌∙◌, arith}
 use Rattle.std.specs.Fmt.{decimal}
 use Rattle.std.proofs.lemmas.Bool.Decides.{nat_tests}
 use Rattle.std.proofs.lemmas.List.{take_all}
@@ -27,7 +28,8 @@ use Rattle.tshape_data.proofs.RepsLaws.{OneIsExact}
 -- ---- the number of a form
 
 -- a form that was accepted, where there was room
-pub room_some : {A : Type 0} (room : ℕ) (t : Token) (n : ℕ) (o x : Option A) → with_room room t n o ≡ Ok x → (f : A) × (o ≡ Some f) × (x ≡ Some f) × (0 < room)
+pub room_some : {A : Type 0} (room : ℕ) (t : Token) (n : ℕ) (o x : Option A) → with_room room t n o ≡ Ok x
+    → (f : A) × (o ≡ Some f) × (x ≡ Some f) × (0 < room)
 room_some room t n None x e = absurd cc
 room_some zero t n (Some f) x e = absurd cc
 room_some (suc room) t n (Some f) x e = (f, refl, sym (ok_is (Some f) x e), omega arith)
@@ -46,7 +48,8 @@ abbrev IsKind : ℕ → ℕ → Option EdgeForm → Type 0
 IsKind room n None = n ≡ 0
 IsKind room n (Some form) = (n ≡ edge_number form) × (0 < room)
 
-kind_if : (x : Bool) (room : ℕ) (t : Token) (n : ℕ) (o : Option EdgeForm) → (n == 0) ≡ x → (if x then Ok None else with_room room t n (edge_form n)) ≡ Ok o → IsKind room n o
+kind_if : (x : Bool) (room : ℕ) (t : Token) (n : ℕ) (o : Option EdgeForm) → (n == 0) ≡ x
+    → (if x then Ok None else with_room room t n (edge_form n)) ≡ Ok o → IsKind room n o
 kind_if true room t n None is e = grind (arith, nat_tests)
 kind_if true room t n (Some form) is e = absurd cc
 kind_if false room t n None is e =
@@ -60,7 +63,8 @@ module _ (fields : FieldsAreExact) where
   abbrev done : Option EdgeForm × List Token → Read (Option EdgeForm)
   done x = Ok x
 
-  kind_takes : (room : ℕ) (ts rest : List Token) (o : Option EdgeForm) → edge_form_at room ts ≡ Ok (o, rest) → (n : ℕ) × Begins ts (decimal n ∷ []) rest × IsKind room n o
+  kind_takes : (room : ℕ) (ts rest : List Token) (o : Option EdgeForm) → edge_form_at room ts ≡ Ok (o, rest)
+      → (n : ℕ) × Begins ts (decimal n ∷ []) rest × IsKind room n o
   kind_takes room [] rest o e = absurd cc
   kind_takes room (t ∷ ts) rest o e =
       let n = bind_ok (number_at (t ∷ ts)) (λ n. edge_kind room t n.0 >>= λ form. done (form, n.1)) (o, rest) e in
@@ -72,13 +76,15 @@ module _ (fields : FieldsAreExact) where
         subst (IsKind room n.0.0) (ap (λ q. q.0) p) (kind_if (n.0.0 == 0) room t n.0.0 k.0 refl k.1),
       )
 
-  end_again : FormsAreExact → (room : ℕ) (ts rest : List Token) → Begins ts (codes "0" ∷ []) rest → edge_form_at room ts ≡ Ok (None, rest)
+  end_again : FormsAreExact → (room : ℕ) (ts rest : List Token) → Begins ts (codes "0" ∷ []) rest
+      → edge_form_at room ts ≡ Ok (None, rest)
   end_again forms room [] rest b = absurd b
   end_again forms room (t ∷ ts) rest b =
       let zero_there : Begins (t ∷ ts) (decimal 0 ∷ []) rest = (b.0 ∙ zero_text forms, b.1) in
       rw (fields.number.again (t ∷ ts) rest 0 zero_there (omega arith)) refl
 
-  form_again : (room : ℕ) (form : EdgeForm) (ts rest : List Token) → Begins ts (decimal (edge_number form) ∷ []) rest → edge_form_at (suc room) ts ≡ Ok (Some form, rest)
+  form_again : (room : ℕ) (form : EdgeForm) (ts rest : List Token) → Begins ts (decimal (edge_number form) ∷ []) rest
+      → edge_form_at (suc room) ts ≡ Ok (Some form, rest)
   form_again room form [] rest b = absurd b
   form_again room edges.Curve (t ∷ ts) rest b = rw (fields.number.again (t ∷ ts) rest 1 b (omega arith)) refl
   form_again room edges.Curve2 (t ∷ ts) rest b = rw (fields.number.again (t ∷ ts) rest 2 b (omega arith)) refl
@@ -95,10 +101,14 @@ abbrev built : ℕ → EdgeForm → List ℕ → List (List ℕ) → List (List 
 built version form ns texts = number_texts (edge_columns form) ns ++ texts
 
 spelled : (version : ℕ) (r : EdgeRep) → AreDecimals (edge_texts version (form_of_edge r)) (texts_of_edge r)
-    → edge_rep_texts version r ≡ decimal (edge_number (form_of_edge r)) ∷ built version (form_of_edge r) (numbers_of_edge r) (texts_of_edge r)
+    → edge_rep_texts version r ≡ decimal (edge_number (form_of_edge r)) ∷ built version (form_of_edge r)
+    (numbers_of_edge r) (texts_of_edge r)
 spelled version r are =
-    let all : texts_in version r ≡ texts_of_edge r = take_all (edge_texts version (form_of_edge r)) (texts_of_edge r) (omega (arith, are.0)) in
-    edge_rep_spelled version r ∙ ap (λ (z : List (List ℕ)). decimal (edge_number (form_of_edge r)) ∷ (number_texts (edge_columns (form_of_edge r)) (numbers_of_edge r) ++ z)) all
+    let all : texts_in version r ≡ texts_of_edge r = take_all (edge_texts version (form_of_edge r)) (texts_of_edge r)
+    (omega (arith, are.0)) in
+    edge_rep_spelled version r
+    ∙ ap (λ (z : List (List ℕ)). decimal (edge_number (form_of_edge r))
+    ∷ (number_texts (edge_columns (form_of_edge r)) (numbers_of_edge r) ++ z)) all
 
 same_rep : (r : EdgeRep) → edge_rep (form_of_edge r) (numbers_of_edge r) (texts_of_edge r) ≡ r
 same_rep (edge_reps.Curve curve location texts) = refl
@@ -116,7 +126,8 @@ module _ (forms : FormsAreExact) (fields : FieldsAreExact) (b : HeadBounds) (ver
     pub begins : Begins ts (built version (form_of_edge r) (numbers_of_edge r) (texts_of_edge r)) rest
     pub sound : IsSoundEdgeRep (sizes b) version r
 
-  rep_built : (form : EdgeForm) (ns : List ℕ) (texts : List (List ℕ)) (ts rest : List Token) → AreInColumns (sizes b) (edge_columns form) ns → AreDecimals (edge_texts version form) texts
+  rep_built : (form : EdgeForm) (ns : List ℕ) (texts : List (List ℕ)) (ts rest : List Token)
+      → AreInColumns (sizes b) (edge_columns form) ns → AreDecimals (edge_texts version form) texts
       → Begins ts (built version form ns texts) rest → IsEdgeRep form ts rest (edge_rep form ns texts)
   rep_built form ns texts ts rest are decimals begins =
       let f = edge_form_back form ns texts in
@@ -128,51 +139,70 @@ module _ (forms : FormsAreExact) (fields : FieldsAreExact) (b : HeadBounds) (ver
         sound = edge_rep_sound (sizes b) version form ns texts are decimals;
       }
 
-  rep_takes : (form : EdgeForm) (ts rest : List Token) (r : EdgeRep) → edge_rep_at b version form ts ≡ Ok (r, rest) → IsEdgeRep form ts rest r
+  rep_takes : (form : EdgeForm) (ts rest : List Token) (r : EdgeRep) → edge_rep_at b version form ts ≡ Ok (r, rest)
+      → IsEdgeRep form ts rest r
   rep_takes form ts rest r e =
-      let n = bind_ok (columns_at b (edge_columns form) ts) (λ numbers. decimals_at (edge_texts version form) numbers.1 >>= λ texts. Ok (edge_rep form numbers.0 texts.0, texts.1)) (r, rest) e in
-      let x = bind_ok (decimals_at (edge_texts version form) n.0.1) (λ texts. Ok (edge_rep form n.0.0 texts.0, texts.1)) (r, rest) n.2 in
+      let n = bind_ok (columns_at b (edge_columns form) ts) (λ numbers. decimals_at (edge_texts version form) numbers.1
+      >>= λ texts. Ok (edge_rep form numbers.0 texts.0, texts.1)) (r, rest) e in
+      let x = bind_ok (decimals_at (edge_texts version form) n.0.1) (λ texts. Ok (edge_rep form n.0.0 texts.0, texts.1))
+      (r, rest) n.2 in
       let p = ok_is (edge_rep form n.0.0 x.0.0, x.0.1) (r, rest) x.2 in
       let one = columns_takes forms fields b (edge_columns form) [] ts n.0.1 n.0.0 n.1 in
       let two = (fields.decimals (edge_texts version form)).takes n.0.1 x.0.1 x.0.0 x.1 in
-      let are : AreInColumns (sizes b) (edge_columns form) n.0.0 = subst (AreInColumns (sizes b) (edge_columns form)) (sym one.1) one.3 in
-      let begins : Begins ts (number_texts (edge_columns form) n.0.0) n.0.1 = subst (λ (ns : List ℕ). Begins ts (number_texts (edge_columns form) ns) n.0.1) (sym one.1) one.2 in
+      let are : AreInColumns (sizes b) (edge_columns form) n.0.0 = subst (AreInColumns (sizes b) (edge_columns form))
+      (sym one.1) one.3 in
+      let begins : Begins ts (number_texts (edge_columns form) n.0.0) n.0.1 =
+      subst (λ (ns : List ℕ). Begins ts (number_texts (edge_columns form) ns) n.0.1) (sym one.1) one.2 in
       subst (λ (q : EdgeRep × List Token). IsEdgeRep form ts q.1 q.0) p
-      (rep_built form n.0.0 x.0.0 ts x.0.1 are two.1 (fields.joined ts (number_texts (edge_columns form) n.0.0) n.0.1 x.0.0 x.0.1 begins two.0))
+      (rep_built form n.0.0 x.0.0 ts x.0.1 are two.1
+      (fields.joined ts (number_texts (edge_columns form) n.0.0) n.0.1 x.0.0 x.0.1 begins two.0))
 
-  rep_again : (form : EdgeForm) (ns : List ℕ) (texts : List (List ℕ)) (ts rest : List Token) → AreInColumns (sizes b) (edge_columns form) ns → AreDecimals (edge_texts version form) texts
+  rep_again : (form : EdgeForm) (ns : List ℕ) (texts : List (List ℕ)) (ts rest : List Token)
+      → AreInColumns (sizes b) (edge_columns form) ns → AreDecimals (edge_texts version form) texts
       → Begins ts (built version form ns texts) rest → edge_rep_at b version form ts ≡ Ok (edge_rep form ns texts, rest)
   rep_again form ns texts ts rest are decimals begins =
       let s = fields.split ts (number_texts (edge_columns form) ns) texts rest begins in
-      rw (columns_again forms fields b (edge_columns form) [] ts s.0 ns s.1 are, (fields.decimals (edge_texts version form)).again s.0 rest texts s.2 decimals) refl
+      rw (
+        columns_again forms fields b (edge_columns form) [] ts s.0 ns s.1 are,
+        (fields.decimals (edge_texts version form)).again s.0 rest texts s.2 decimals,
+      ) refl
 
-  goes : (room : ℕ) (ts mid rest : List Token) (form : EdgeForm) (r : EdgeRep) → edge_form_at room ts ≡ Ok (Some form, mid) → edge_rep_at b version form mid ≡ Ok (r, rest)
+  goes : (room : ℕ) (ts mid rest : List Token) (form : EdgeForm) (r : EdgeRep)
+      → edge_form_at room ts ≡ Ok (Some form, mid) → edge_rep_at b version form mid ≡ Ok (r, rest)
       → Begins ts (edge_rep_texts version r) rest × IsSoundEdgeRep (sizes b) version r
   goes room ts mid rest form r e1 e2 =
       let k = kind_takes fields room ts mid (Some form) e1 in
       let is = rep_takes form mid rest r e2 in
       let number : k.0 ≡ edge_number (form_of_edge r) = k.2.0 ∙ ap edge_number (sym is.form) in
-      let one : Begins ts (decimal (edge_number (form_of_edge r)) ∷ []) mid = subst (λ (n : ℕ). Begins ts (decimal n ∷ []) mid) number k.1 in
+      let one : Begins ts (decimal (edge_number (form_of_edge r)) ∷ []) mid =
+      subst (λ (n : ℕ). Begins ts (decimal n ∷ []) mid) number k.1 in
       let tail = built version (form_of_edge r) (numbers_of_edge r) (texts_of_edge r) in (
-        subst (λ (z : List (List ℕ)). Begins ts z rest) (sym (spelled version r is.sound.decimals)) (fields.joined ts (decimal (edge_number (form_of_edge r)) ∷ []) mid tail rest one is.begins),
+        subst (λ (z : List (List ℕ)). Begins ts z rest) (sym (spelled version r is.sound.decimals))
+            (fields.joined ts (decimal (edge_number (form_of_edge r)) ∷ []) mid tail rest one is.begins),
         is.sound,
       )
 
-  again : (room : ℕ) (ts rest : List Token) (r : EdgeRep) → Begins ts (edge_rep_texts version r) rest → IsSoundEdgeRep (sizes b) version r
-      → (f : EdgeForm) × (mid : List Token) × (edge_form_at (suc room) ts ≡ Ok (Some f, mid)) × (edge_rep_at b version f mid ≡ Ok (r, rest))
+  again : (room : ℕ) (ts rest : List Token) (r : EdgeRep) → Begins ts (edge_rep_texts version r) rest
+      → IsSoundEdgeRep (sizes b) version r
+      → (f : EdgeForm) × (mid : List Token) × (edge_form_at (suc room) ts ≡ Ok (Some f, mid))
+      × (edge_rep_at b version f mid ≡ Ok (r, rest))
   again room ts rest r begins sound =
       let tail = built version (form_of_edge r) (numbers_of_edge r) (texts_of_edge r) in
-      let s = fields.split ts (decimal (edge_number (form_of_edge r)) ∷ []) tail rest (subst (λ (z : List (List ℕ)). Begins ts z rest) (spelled version r sound.decimals) begins) in (
+      let s = fields.split ts (decimal (edge_number (form_of_edge r)) ∷ []) tail rest
+      (subst (λ (z : List (List ℕ)). Begins ts z rest) (spelled version r sound.decimals) begins) in (
         form_of_edge r,
         s.0,
         form_again fields room (form_of_edge r) ts s.0 s.1,
         subst (λ (q : EdgeRep). edge_rep_at b version (form_of_edge r) s.0 ≡ Ok (q, rest)) (same_rep r)
-            (rep_again (form_of_edge r) (numbers_of_edge r) (texts_of_edge r) s.0 rest sound.numbers sound.decimals s.2),
+            (rep_again (form_of_edge r) (numbers_of_edge r) (texts_of_edge r) s.0 rest sound.numbers
+            sound.decimals s.2),
       )
 
-  pub edge_reps_exact : OneIsExact edge_form_at (edge_rep_at b version) (edge_rep_texts version) (codes "0" ∷ []) (IsSoundEdgeRep (sizes b) version)
+  pub edge_reps_exact : OneIsExact edge_form_at (edge_rep_at b version) (edge_rep_texts version) (codes "0" ∷ [])
+      (IsSoundEdgeRep (sizes b) version)
   edge_reps_exact = record {
-    ends = λ room ts rest e. (let k = kind_takes fields room ts rest None e in subst (λ (z : List ℕ). Begins ts (z ∷ []) rest) (ap decimal k.2 ∙ sym (zero_text forms)) k.1);
+    ends = λ room ts rest e. (let k = kind_takes fields room ts rest None e in
+        subst (λ (z : List ℕ). Begins ts (z ∷ []) rest) (ap decimal k.2 ∙ sym (zero_text forms)) k.1);
     goes = goes;
     full = λ ts mid form e. (let k = kind_takes fields zero ts mid (Some form) e in omega (arith, k.2.1));
     end_again = end_again fields forms;

@@ -1,5 +1,6 @@
 -- The name of a kind and the flags are read exactly as they are spelled.
-use Rattle.std.proofs.Common.{◌≡◌, ◌&&◌, ◌==◌, ℕ, Bool, true, false, if◌then◌else◌, List, [], ◌∷◌, length, Some, None, Ok, refl, sym, ap, ◌∙◌, arith}
+use Rattle.std.proofs.Common.{◌≡◌, ◌&&◌, ◌==◌, ℕ, Bool, true, false, if◌then◌else◌, List, [], ◌∷◌, length, Some, None}
+use Rattle.std.proofs.Common.{Ok, refl, sym, ap, ◌∙◌, arith}
 use Rattle.std.specs.List.{list_all}
 use Rattle.std.proofs.lemmas.Bool.Decides.{nat_tests}
 use Rattle.brep_tokens.specs.declared.text.Token.{Token}
@@ -39,7 +40,8 @@ kind_takes (t ∷ ts) rest k e =
     let s = spelled_ok codes.WordExpected t ts rest (kind_of_name t.text) k e in
     (name_there t.text k s.0, s.1)
 
-pub kind_again : SignsAndNamesTell → (ts rest : List Token) (k : Kind) → Begins ts (name_of k ∷ []) rest → kind_at ts ≡ Ok (k, rest)
+pub kind_again : SignsAndNamesTell → (ts rest : List Token) (k : Kind) → Begins ts (name_of k ∷ []) rest
+    → kind_at ts ≡ Ok (k, rest)
 kind_again tell [] rest k b = absurd b
 kind_again tell (t ∷ ts) rest k b = rw (b.0, tell.names k, b.1) refl
 
@@ -68,7 +70,15 @@ flags_back (a ∷ b ∷ c ∷ d ∷ e ∷ f ∷ g ∷ []) n all =
     let all5 = both (is_flag e) (list_all is_flag (f ∷ g ∷ [])) all4.1 in
     let all6 = both (is_flag f) (list_all is_flag (g ∷ [])) all5.1 in
     let all7 = both (is_flag g) (list_all is_flag []) all6.1 in
-    rw (code_back a all1.0, code_back b all2.0, code_back c all3.0, code_back d all4.0, code_back e all5.0, code_back f all6.0, code_back g all7.0) refl
+    rw (
+      code_back a all1.0,
+      code_back b all2.0,
+      code_back c all3.0,
+      code_back d all4.0,
+      code_back e all5.0,
+      code_back f all6.0,
+      code_back g all7.0,
+    ) refl
 flags_back (a ∷ b ∷ c ∷ d ∷ e ∷ f ∷ g ∷ h ∷ rest) n all = absurd (omega (arith, n))
 
 some_chosen : (b : Bool) (x y : Flags) → (if b then Some x else None) ≡ Some y → (b ≡ true) × (x ≡ y)
@@ -89,7 +99,15 @@ code_is true = refl
 code_is false = refl
 
 pub flags_pass : (f : Flags) → list_all is_flag (spell_flags f) ≡ true
-flags_pass f = rw (code_is f.free, code_is f.modified, code_is f.checked, code_is f.orientable, code_is f.closed, code_is f.infinite, code_is f.convex) refl
+flags_pass f = rw (
+  code_is f.free,
+  code_is f.modified,
+  code_is f.checked,
+  code_is f.orientable,
+  code_is f.closed,
+  code_is f.infinite,
+  code_is f.convex,
+) refl
 
 code_tells : (b : Bool) → (flag_code b == 49) ≡ b
 code_tells true = refl

@@ -25,7 +25,8 @@ few_columns points.OnCurve2 = omega arith
 few_columns points.OnSurface = omega arith
 
 -- where no number was read, one is due
-pub fresh_columns : (form : PointForm) (r : ColumnsDue) → r.len ≡ 0 → numbers_of r ≡ [] → IsNumberDue (point_columns form) r
+pub fresh_columns : (form : PointForm) (r : ColumnsDue) → r.len ≡ 0 → numbers_of r ≡ []
+    → IsNumberDue (point_columns form) r
 fresh_columns form r len none = record {
   due = subst (λ n. n < length (point_columns form)) (sym len) (some_columns form);
   few = few_columns form;
@@ -35,10 +36,14 @@ fresh_columns form r len none = record {
 -- where no parameter is due, the numbers are
 pub texts_past : (r : PointRepsReader) (form : PointForm) (columns : ColumnsDue) → r.texts.due ≡ 0
     → ((b : HeadBounds) (cs : List Column) (ts : List Token) → columns_left b cs columns ts ≡ columns_at b cs ts)
-    → (ts : List Token) → then_points r (numbers_then form r.texts.texts (columns_left r.bounds (point_columns form) columns ts)) ≡ at_stage (stages.Texts form) r ts
+    → (ts : List Token) → then_points r
+    (numbers_then form r.texts.texts (columns_left r.bounds (point_columns form) columns ts)) ≡ at_stage
+    (stages.Texts form) r ts
 texts_past r form columns none left ts = rw (left r.bounds (point_columns form) ts, none) refl
 
 -- a form, where there is room
-pub form_one : (r : PointRepsReader) (form : PointForm) (ts rest : List Token) → 0 < r.room → point_form_at r.param r.room ts ≡ Ok (Some form, rest)
+pub form_one : (r : PointRepsReader) (form : PointForm) (ts rest : List Token) → 0 < r.room
+    → point_form_at r.param r.room ts ≡ Ok (Some form, rest)
     → at_stage stages.Form r ts ≡ point_then r form rest
-form_one r form ts rest lt e = rw (e, then_one param_at (point_rep_at r.bounds) r.room r.reps (r.param, form) rest lt) refl
+form_one r form ts rest lt e =
+    rw (e, then_one param_at (point_rep_at r.bounds) r.room r.reps (r.param, form) rest lt) refl

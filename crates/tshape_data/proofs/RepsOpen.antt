@@ -7,7 +7,8 @@ use Rattle.tshape_data.specs.EdgesLeft.{edges_left}
 use Rattle.tshape_data.specs.EdgesLeft as edges
 use Rattle.tshape_data.specs.PointsLeft.{points_left}
 use Rattle.tshape_data.specs.PointsLeft as points
-use Rattle.tshape_data.specs.RepReading.{column_at, columns_from, edge_form_at, edge_rep_at, param_at, point_rep_at, reps_from}
+use Rattle.tshape_data.specs.RepReading.{column_at, columns_from, edge_form_at, edge_rep_at, param_at, point_rep_at}
+use Rattle.tshape_data.specs.RepReading.{reps_from}
 use Rattle.tshape_data.specs.declared.head_bounds.HeadBounds.{HeadBounds}
 use Rattle.tshape_data.specs.declared.columns.Column.{Column}
 use Rattle.tshape_data.specs.declared.columns.Column.TheVariants.{Entry, Location, Continuity}
@@ -29,25 +30,29 @@ no_column b (Entry table) = refl
 no_column b Location = refl
 no_column b Continuity = refl
 
-pub no_number : (b : HeadBounds) (ns : List ℕ) (cs : List Column) (n : ℕ) → n < length cs → columns_from b ns (drop n cs) [] ≡ Err more
+pub no_number : (b : HeadBounds) (ns : List ℕ) (cs : List Column) (n : ℕ) → n < length cs
+    → columns_from b ns (drop n cs) [] ≡ Err more
 no_number b ns [] n lt = absurd (omega (arith, lt))
 no_number b ns (c ∷ cs) zero lt = rw (no_column b c) refl
 no_number b ns (c ∷ cs) (suc n) lt = no_number b ns cs n (omega (arith, lt))
 
-pub no_edge : (b : HeadBounds) (version room : ℕ) (reps : List EdgeRep) → reps_from edge_form_at (edge_rep_at b version) room reps [] ≡ Err more
+pub no_edge : (b : HeadBounds) (version room : ℕ) (reps : List EdgeRep)
+    → reps_from edge_form_at (edge_rep_at b version) room reps [] ≡ Err more
 no_edge b version zero reps = refl
 no_edge b version (suc room) reps = refl
 
 edge_open : (s : EdgeStage) (r : EdgeRepsReader) → edges.IsDue s r → edges.at_stage s r [] ≡ Err more
 edge_open edge_stages.Form r due = no_edge r.bounds r.version r.room r.reps
-edge_open (edge_stages.Numbers form) r due = rw (no_number r.bounds (numbers_of r.columns) (edge_columns form) r.columns.len due.due) refl
+edge_open (edge_stages.Numbers form) r due =
+    rw (no_number r.bounds (numbers_of r.columns) (edge_columns form) r.columns.len due.due) refl
 edge_open (edge_stages.Texts form) r due = rw (no_texts r.texts.texts r.texts.due due.1) refl
 edge_open edge_stages.Whole r due = absurd due
 
 pub edges_open : (r : EdgeRepsReader) → edges.IsWaiting r → edges_left r [] ≡ Err more
 edges_open r due = edge_open r.stage r due
 
-pub no_point : (b : HeadBounds) (room : ℕ) (reps : List PointRep) → reps_from param_at (point_rep_at b) room reps [] ≡ Err more
+pub no_point : (b : HeadBounds) (room : ℕ) (reps : List PointRep)
+    → reps_from param_at (point_rep_at b) room reps [] ≡ Err more
 no_point b zero reps = refl
 no_point b (suc room) reps = refl
 
@@ -55,7 +60,8 @@ point_open : (s : PointStage) (r : PointRepsReader) → points.IsDue s r → poi
 point_open point_stages.Param r due = no_point r.bounds r.room r.reps
 point_open point_stages.Form r due = refl
 point_open (point_stages.Texts form) r due = rw (no_texts r.texts.texts r.texts.due due) refl
-point_open (point_stages.Numbers form) r due = rw (no_number r.bounds (numbers_of r.columns) (point_columns form) r.columns.len due.due) refl
+point_open (point_stages.Numbers form) r due =
+    rw (no_number r.bounds (numbers_of r.columns) (point_columns form) r.columns.len due.due) refl
 point_open point_stages.Whole r due = absurd due
 
 pub points_open : (r : PointRepsReader) → points.IsWaiting r → points_left r [] ≡ Err more

@@ -1,6 +1,7 @@
 -- Of which numbers the representations of each form consist, and how many decimals they have.
 use Rattle.std.specs.Prelude.{ℕ, ◌==◌, if◌then◌else◌, List, [], ◌∷◌, Option, Some, None}
-use Rattle.tshape_data.specs.declared.columns.Table.TheVariants.{Curve2s, Curves, Polygons, PolygonsOn, Surfaces, Meshes}
+use Rattle.tshape_data.specs.declared.columns.Table.TheVariants.{Curve2s, Curves, Polygons, PolygonsOn, Surfaces}
+use Rattle.tshape_data.specs.declared.columns.Table.TheVariants.{Meshes}
 use Rattle.tshape_data.specs.declared.columns.Column.{Column}
 use Rattle.tshape_data.specs.declared.columns.Column.TheVariants.{Entry, Location, Continuity}
 use Rattle.tshape_data.specs.declared.forms.PointForm.{PointForm}
@@ -16,7 +17,8 @@ point_number points.OnCurve2 = 2
 point_number points.OnSurface = 3
 
 abbrev pub point_form : ℕ → Option PointForm
-point_form n = if n == 1 then Some points.OnCurve else (if n == 2 then Some points.OnCurve2 else (if n == 3 then Some points.OnSurface else None))
+point_form n = if n == 1 then Some points.OnCurve
+    else (if n == 2 then Some points.OnCurve2 else (if n == 3 then Some points.OnSurface else None))
 
 abbrev pub point_columns : PointForm → List Column
 point_columns points.OnCurve = Entry Curves ∷ Location ∷ []

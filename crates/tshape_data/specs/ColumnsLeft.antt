@@ -35,7 +35,8 @@ abbrev pub AllAreLeft : ColumnsDue → Type 0
 AllAreLeft r = (b : HeadBounds) (cs : List Column) (ts : List Token) → columns_left b cs r ts ≡ columns_at b cs ts
 
 -- the next number for these columns was taken
-abbrev pub TakesNumber : HeadBounds → List Column → ColumnsDue → Token → ColumnsDue → Result (Unit {0}) ReadStop → Type 0
+abbrev pub TakesNumber : HeadBounds → List Column → ColumnsDue → Token → ColumnsDue
+    → Result (Unit {0}) ReadStop → Type 0
 TakesNumber b cs old t new result = StepsOn (columns_left b cs old) t (columns_left b cs new) result
 
 -- a number is due, and there is room for it

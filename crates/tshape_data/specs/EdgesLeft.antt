@@ -28,7 +28,8 @@ then_edges r read = read >>= λ rep. edges_after r (r.reps ++ rep.0 ∷ []) rep.
 
 -- one of this form, and those after it
 abbrev pub edge_then : EdgeRepsReader → EdgeForm → List Token → Read (List EdgeRep)
-edge_then r form ts = edge_rep_at r.bounds r.version form ts >>= λ rep. reps_from edge_form_at (edge_rep_at r.bounds r.version) (r.room - 1) (r.reps ++ rep.0 ∷ []) rep.1
+edge_then r form ts = edge_rep_at r.bounds r.version form ts >>= λ rep. reps_from edge_form_at
+    (edge_rep_at r.bounds r.version) (r.room - 1) (r.reps ++ rep.0 ∷ []) rep.1
 
 -- the decimals of one whose numbers were read
 abbrev pub texts_then : EdgeForm → List ℕ → Read (List (List ℕ)) → Read EdgeRep
@@ -36,7 +37,8 @@ texts_then form numbers read = read >>= λ texts. Ok (edge_rep form numbers text
 
 abbrev pub at_stage : EdgeStage → EdgeRepsReader → List Token → Read (List EdgeRep)
 at_stage stages.Form r ts = edges_after r r.reps ts
-at_stage (stages.Numbers form) r ts = then_edges r (columns_left r.bounds (edge_columns form) r.columns ts >>= λ numbers. texts_then form numbers.0 (decimals_at (edge_texts r.version form) numbers.1))
+at_stage (stages.Numbers form) r ts = then_edges r (columns_left r.bounds (edge_columns form) r.columns ts
+    >>= λ numbers. texts_then form numbers.0 (decimals_at (edge_texts r.version form) numbers.1))
 at_stage (stages.Texts form) r ts = then_edges r (texts_then form (numbers_of r.columns) (decimals_left r.texts ts))
 at_stage stages.Whole r ts = Ok (r.reps, ts)
 

@@ -1,5 +1,6 @@
 -- The seven flags of a record as one token.
-use Rattle.std.specs.Prelude.{ℕ, ◌==◌, ◌&&◌, Bool, if◌then◌else◌, slice_index, List, [], ◌∷◌, length, Option, Some, None}
+use Rattle.std.specs.Prelude.{ℕ, ◌==◌, ◌&&◌, Bool, if◌then◌else◌, slice_index, List, [], ◌∷◌, length, Option, Some}
+use Rattle.std.specs.Prelude.{None}
 use Rattle.std.specs.List.{list_all}
 use Rattle.brep_tokens.specs.Bytes.{is_flag}
 use Rattle.tshape_data.specs.declared.head.Flags.{Flags}

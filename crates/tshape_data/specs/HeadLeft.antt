@@ -46,7 +46,16 @@ points_then texts read = read >>= λ points. Ok (Vertex (record { texts = texts;
 
 abbrev pub reps_then : List (List ℕ) → Bool → Bool → Bool → Read (List EdgeRep) → Read Payload
 reps_then tolerance same_parameter same_range degenerated read =
-    read >>= λ reps. Ok (Edge (record { tolerance = tolerance; same_parameter = same_parameter; same_range = same_range; degenerated = degenerated; reps = reps.0 }), reps.1)
+    read >>= λ reps. Ok (
+      Edge (record {
+        tolerance = tolerance;
+        same_parameter = same_parameter;
+        same_range = same_range;
+        degenerated = degenerated;
+        reps = reps.0;
+      }),
+      reps.1,
+    )
 
 module _ (b : HeadBounds) (version : ℕ) (tolerance : List (List ℕ)) where
   abbrev pub from_degenerated : Bool → Bool → List Token → Read Payload
@@ -69,7 +78,16 @@ module _ (b : HeadBounds) (version : ℕ) (tolerance : List (List ℕ)) where
 module _ (natural : Bool) (tolerance : List (List ℕ)) where
   abbrev pub mesh_then : ℕ → ℕ → Read (Option ℕ) → Read Payload
   mesh_then surface location read =
-      read >>= λ mesh. Ok (Face (record { natural = natural; tolerance = tolerance; surface = surface; location = location; mesh = mesh.0 }), mesh.1)
+      read >>= λ mesh. Ok (
+        Face (record {
+          natural = natural;
+          tolerance = tolerance;
+          surface = surface;
+          location = location;
+          mesh = mesh.0;
+        }),
+        mesh.1,
+      )
 
   abbrev pub from_location : HeadBounds → ℕ → List Token → Read Payload
   from_location b surface ts = do
@@ -102,7 +120,13 @@ kind_of (fields.Nothing kind) = kind
 abbrev pub payload_from : Fields → List (List ℕ) → List PointRep → List EdgeRep → Payload
 payload_from fields.Vertex texts points reps = Vertex (record { texts = texts; points = points })
 payload_from (fields.Edge f) texts points reps =
-    Edge (record { tolerance = texts; same_parameter = f.same_parameter; same_range = f.same_range; degenerated = f.degenerated; reps = reps })
+    Edge (record {
+      tolerance = texts;
+      same_parameter = f.same_parameter;
+      same_range = f.same_range;
+      degenerated = f.degenerated;
+      reps = reps;
+    })
 payload_from (fields.Face s mesh) texts points reps =
     Face (record { natural = s.natural; tolerance = texts; surface = s.surface; location = s.location; mesh = mesh })
 payload_from (fields.Nothing kind) texts points reps = Nothing
@@ -112,19 +136,24 @@ payload_of f r = payload_from f r.texts.texts r.points.reps r.edges.reps
 
 abbrev pub at_stage : Stage → HeadReader → List Token → Read Head
 at_stage stages.Kind r ts = head_at r.bounds r.version ts
-at_stage stages.VertexTexts r ts = then_flags Ve (decimals_left r.texts ts >>= λ texts. points_then texts.0 (points_at r.bounds (room_of r.bounds) texts.1))
+at_stage stages.VertexTexts r ts =
+    then_flags Ve (decimals_left r.texts ts
+    >>= λ texts. points_then texts.0 (points_at r.bounds (room_of r.bounds) texts.1))
 at_stage stages.Points r ts = then_flags Ve (points_then r.texts.texts (points_left r.points ts))
 at_stage stages.Tolerance r ts = then_flags Ed (edge_at r.bounds r.version ts)
 at_stage stages.SameParameter r ts = then_flags Ed (from_same_parameter r.bounds r.version r.texts.texts ts)
 at_stage (stages.SameRange p) r ts = then_flags Ed (from_same_range r.bounds r.version r.texts.texts p ts)
 at_stage (stages.Degenerated p q) r ts = then_flags Ed (from_degenerated r.bounds r.version r.texts.texts p q ts)
-at_stage (stages.EdgeReps f) r ts = then_flags Ed (reps_then r.texts.texts f.same_parameter f.same_range f.degenerated (edges_left r.edges ts))
+at_stage (stages.EdgeReps f) r ts =
+    then_flags Ed (reps_then r.texts.texts f.same_parameter f.same_range f.degenerated (edges_left r.edges ts))
 at_stage stages.Natural r ts = then_flags Fa (face_at r.bounds ts)
 at_stage (stages.FaceTolerance n) r ts = then_flags Fa (from_tolerance r.bounds n ts)
 at_stage (stages.Surface n) r ts = then_flags Fa (from_surface n r.texts.texts r.bounds ts)
 at_stage (stages.Location n s) r ts = then_flags Fa (from_location n r.texts.texts r.bounds s ts)
-at_stage (stages.Mesh s) r ts = then_flags Fa (mesh_then s.natural r.texts.texts s.surface s.location (mesh_at r.bounds ts))
-at_stage (stages.MeshNumber s) r ts = then_flags Fa (mesh_then s.natural r.texts.texts s.surface s.location (mesh_number r.bounds ts))
+at_stage (stages.Mesh s) r ts =
+    then_flags Fa (mesh_then s.natural r.texts.texts s.surface s.location (mesh_at r.bounds ts))
+at_stage (stages.MeshNumber s) r ts =
+    then_flags Fa (mesh_then s.natural r.texts.texts s.surface s.location (mesh_number r.bounds ts))
 at_stage (stages.Flags d) r ts = flagged_at (kind_of d) (payload_of d r) ts
 at_stage (stages.Whole d flags) r ts = Ok (record { kind = kind_of d; payload = payload_of d r; flags = flags }, ts)
 
@@ -164,7 +193,8 @@ IsDone r = IsWholeStage r.stage
 
 -- the data of this kind are left, and the flags
 abbrev pub DataAreLeft : Kind → HeadReader → HeadReader → Type 0
-DataAreLeft kind old new = (ts : List Token) → head_left new ts ≡ then_flags kind (payload_at old.bounds old.version kind ts)
+DataAreLeft kind old new = (ts : List Token)
+    → head_left new ts ≡ then_flags kind (payload_at old.bounds old.version kind ts)
 
 -- a token was taken at this stage
 abbrev pub TakesAt : Stage → HeadReader → Token → HeadReader → Result Progress ReadStop → Type 0

@@ -45,12 +45,22 @@ edge_at b version ts = do
   same_range ← flag_at same_parameter.1
   degenerated ← flag_at same_range.1
   reps ← edge_reps_at b version (room_of b) degenerated.1
-  Ok (Edge (record { tolerance = tolerance.0; same_parameter = same_parameter.0; same_range = same_range.0; degenerated = degenerated.0; reps = reps.0 }), reps.1)
+  Ok (
+    Edge (record {
+      tolerance = tolerance.0;
+      same_parameter = same_parameter.0;
+      same_range = same_range.0;
+      degenerated = degenerated.0;
+      reps = reps.0;
+    }),
+    reps.1,
+  )
 
 -- after a face's location: `2` and a triangulation's number, or nothing
 abbrev pub mesh_at : HeadBounds → List Token → Read (Option ℕ)
 mesh_at b [] = Err more
-mesh_at b (t ∷ ts) = if pointwise nat_eq t.text (codes "2") then (ranged_at 1 b.meshes ts >>= λ mesh. Ok (Some mesh.0, mesh.1)) else Ok (None, t ∷ ts)
+mesh_at b (t ∷ ts) = if pointwise nat_eq t.text (codes "2")
+    then (ranged_at 1 b.meshes ts >>= λ mesh. Ok (Some mesh.0, mesh.1)) else Ok (None, t ∷ ts)
 
 -- a face: its flag, its tolerance, its surface, its location, and perhaps its triangulation
 abbrev pub face_at : HeadBounds → List Token → Read Payload
@@ -60,7 +70,16 @@ face_at b ts = do
   surface ← ranged_at 0 b.surfaces tolerance.1
   location ← ranged_at 0 b.locations surface.1
   mesh ← mesh_at b location.1
-  Ok (Face (record { natural = natural.0; tolerance = tolerance.0; surface = surface.0; location = location.0; mesh = mesh.0 }), mesh.1)
+  Ok (
+    Face (record {
+      natural = natural.0;
+      tolerance = tolerance.0;
+      surface = surface.0;
+      location = location.0;
+      mesh = mesh.0;
+    }),
+    mesh.1,
+  )
 
 -- the data of a kind; wires, shells, solids, composite solids and compounds have none
 abbrev pub payload_at : HeadBounds → ℕ → Kind → List Token → Read Payload
@@ -70,7 +89,8 @@ payload_at b version Fa ts = face_at b ts
 payload_at b version _ ts = Ok (Nothing, ts)
 
 abbrev pub flagged_at : Kind → Payload → List Token → Read Head
-flagged_at kind payload ts = flags_at ts >>= λ flags. Ok (record { kind = kind; payload = payload; flags = flags.0 }, flags.1)
+flagged_at kind payload ts =
+    flags_at ts >>= λ flags. Ok (record { kind = kind; payload = payload; flags = flags.0 }, flags.1)
 
 -- The whole: within these bounds, in a file of this version.
 abbrev pub head_at : HeadBounds → ℕ → List Token → Read Head

@@ -19,14 +19,16 @@ use Rattle.tshape_data.specs.declared.head.Head.{Head}
 
 -- A head is read exactly as it is spelled, where those before it don't have too many representations.
 abbrev pub HeadsAreExact : Type 0
-HeadsAreExact = (b : HeadBounds) (version : ℕ) → b.reps ≤ most_reps → IsExact (head_at b version) (spell_head version) (Fits b version)
+HeadsAreExact = (b : HeadBounds) (version : ℕ) → b.reps ≤ most_reps
+    → IsExact (head_at b version) (spell_head version) (Fits b version)
 
 -- Tokens spell one head at most, also where it has more representations than are read.
 abbrev pub headed : Head → List Token → Head × List Token
 headed h rest = (h, rest)
 
 abbrev pub HeadsTell : Type 0
-HeadsTell = (b : HeadBounds) (version : ℕ) (h g : Head) (ts rest other : List Token) → IsSoundHead (sizes b) version h → IsSoundHead (sizes b) version g
+HeadsTell = (b : HeadBounds) (version : ℕ) (h g : Head) (ts rest other : List Token) → IsSoundHead (sizes b) version h
+    → IsSoundHead (sizes b) version g
     → Begins ts (spell_head version h) rest → Begins ts (spell_head version g) other → headed h rest ≡ headed g other
 
 -- The lines of a sound head have the tokens that it is spelled by.
@@ -43,15 +45,20 @@ with_locations n b = record b { locations = n }
 
 pub record RenumberingKeepsParts : Type 0 where
   -- a sound head names locations of the file
-  pub within : (b : HeadBounds) (version : ℕ) (h : Head) → IsSoundHead b version h → All (λ n. n ≤ b.locations) (data_locations version h.payload)
+  pub within : (b : HeadBounds) (version : ℕ) (h : Head) → IsSoundHead b version h
+      → All (λ n. n ≤ b.locations) (data_locations version h.payload)
   -- with other numbers, which are in range, it is sound
-  pub sound : (b : HeadBounds) (version : ℕ) (h : Head) (renumber : ℕ → ℕ) (n : ℕ) → IsSoundHead b version h → n < 10 ^ 18
-      → All (λ location. renumber location ≤ n) (data_locations version h.payload) → IsSoundHead (with_locations n b) version (renumbered_head renumber h)
+  pub sound : (b : HeadBounds) (version : ℕ) (h : Head) (renumber : ℕ → ℕ) (n : ℕ)
+      → IsSoundHead b version h → n < 10 ^ 18
+      → All (λ location. renumber location ≤ n) (data_locations version h.payload)
+      → IsSoundHead (with_locations n b) version (renumbered_head renumber h)
   -- and its parts are the same but for its locations
-  pub parts : (version : ℕ) (renumber : ℕ → ℕ) (p : Payload) → payload_parts version (renumbered_payload renumber p) ≡ map (renumbered_part renumber) (payload_parts version p)
+  pub parts : (version : ℕ) (renumber : ℕ → ℕ) (p : Payload)
+      → payload_parts version (renumbered_payload renumber p) ≡ map (renumbered_part renumber) (payload_parts version p)
   pub count : (renumber : ℕ → ℕ) (p : Payload) → rep_count (renumbered_payload renumber p) ≡ rep_count p
 
 -- A sound head whose tokens have at most 128 bytes can be spelled; so can it with other locations.
 pub record HeadsCanBeSpelled : Type 0 where
-  pub sound : (b : HeadBounds) (version : ℕ) (h : Head) → IsSoundHead b version h → AreShort (spell_head version h) → IsShortPayload h.payload
+  pub sound : (b : HeadBounds) (version : ℕ) (h : Head) → IsSoundHead b version h → AreShort (spell_head version h)
+      → IsShortPayload h.payload
   pub renumbered : (renumber : ℕ → ℕ) (p : Payload) → IsShortPayload p → IsShortPayload (renumbered_payload renumber p)

@@ -37,7 +37,8 @@ as_written _ words = words
 
 -- the words of a representation's numbers
 abbrev pub number_words : EdgeRep → Line
-number_words r = as_written (form_of_edge r) (map part_text (column_parts (edge_columns (form_of_edge r)) (numbers_of_edge r)))
+number_words r = as_written (form_of_edge r)
+    (map part_text (column_parts (edge_columns (form_of_edge r)) (numbers_of_edge r)))
 
 -- the UV points, where there are any
 abbrev pub uv_lines : List (List ℕ) → List Line
@@ -47,7 +48,8 @@ uv_lines (x ∷ xs) = (x ∷ xs) ∷ []
 -- a line with all but the UV points, and one with these
 abbrev pub edge_rep_lines : ℕ → EdgeRep → List Line
 edge_rep_lines version r =
-    (decimal (edge_number (form_of_edge r)) ∷ (number_words r ++ take 2 (texts_in version r))) ∷ uv_lines (drop 2 (texts_in version r))
+    (decimal (edge_number (form_of_edge r)) ∷ (number_words r ++ take 2 (texts_in version r))) ∷ uv_lines
+    (drop 2 (texts_in version r))
 
 abbrev pub mesh_lines : Option ℕ → List Line
 mesh_lines None = []
@@ -55,9 +57,12 @@ mesh_lines (Some mesh) = map part_text (mesh_parts (Some mesh)) ∷ []
 
 -- the data of a record
 abbrev pub payload_lines : ℕ → Payload → List Line
-payload_lines version (Vertex d) = take 1 d.texts ∷ drop 1 d.texts ∷ (map point_line d.points ++ (codes "0" ∷ codes "0" ∷ []) ∷ [])
-payload_lines version (Edge d) = (d.tolerance ++ edge_flags d) ∷ (flat_map (edge_rep_lines version) d.reps ++ (codes "0" ∷ []) ∷ [])
-payload_lines version (Face d) = (flag_text d.natural ∷ (d.tolerance ++ decimal d.surface ∷ decimal d.location ∷ [])) ∷ mesh_lines d.mesh
+payload_lines version (Vertex d) =
+    take 1 d.texts ∷ drop 1 d.texts ∷ (map point_line d.points ++ (codes "0" ∷ codes "0" ∷ []) ∷ [])
+payload_lines version (Edge d) =
+    (d.tolerance ++ edge_flags d) ∷ (flat_map (edge_rep_lines version) d.reps ++ (codes "0" ∷ []) ∷ [])
+payload_lines version (Face d) = (flag_text d.natural ∷ (d.tolerance ++ decimal d.surface ∷ decimal d.location ∷ []))
+    ∷ mesh_lines d.mesh
 payload_lines version Nothing = []
 
 -- The kind, the data, an empty line and the flags.

@@ -3,7 +3,8 @@ use Rattle.std.specs.Prelude.{ℕ, List, [], ◌∷◌, map}
 use Rattle.std.specs.List.{flat_map}
 use Rattle.tshape_data.specs.Columns.{edge_columns, point_columns}
 use Rattle.tshape_data.specs.Parts.{Part, token, entry, located, payload_parts}
-use Rattle.tshape_data.specs.Reps.{edge_rep, form_of_edge, form_of_point, numbers_of_edge, numbers_of_point, point_rep, texts_of_edge, texts_of_point}
+use Rattle.tshape_data.specs.Reps.{edge_rep, form_of_edge, form_of_point, numbers_of_edge, numbers_of_point, point_rep}
+use Rattle.tshape_data.specs.Reps.{texts_of_edge, texts_of_point}
 use Rattle.tshape_data.specs.declared.columns.Column.{Column}
 use Rattle.tshape_data.specs.declared.columns.Column.TheVariants.{Entry, Location, Continuity}
 use Rattle.tshape_data.specs.declared.reps.PointRep.{PointRep}
@@ -35,10 +36,12 @@ module _ (renumber : ℕ → ℕ) where
   renumbered_numbers (c ∷ cs) (n ∷ ns) = renumbered_number c n ∷ renumbered_numbers cs ns
 
   abbrev pub renumbered_point : PointRep → PointRep
-  renumbered_point p = point_rep (form_of_point p) (renumbered_numbers (point_columns (form_of_point p)) (numbers_of_point p)) (texts_of_point p)
+  renumbered_point p = point_rep (form_of_point p) (renumbered_numbers (point_columns (form_of_point p))
+      (numbers_of_point p)) (texts_of_point p)
 
   abbrev pub renumbered_edge_rep : EdgeRep → EdgeRep
-  renumbered_edge_rep r = edge_rep (form_of_edge r) (renumbered_numbers (edge_columns (form_of_edge r)) (numbers_of_edge r)) (texts_of_edge r)
+  renumbered_edge_rep r = edge_rep (form_of_edge r) (renumbered_numbers (edge_columns (form_of_edge r))
+      (numbers_of_edge r)) (texts_of_edge r)
 
   abbrev pub renumbered_payload : Payload → Payload
   renumbered_payload (Vertex d) = Vertex (record d { points = map renumbered_point d.points })

@@ -4,7 +4,8 @@ use Rattle.std.specs.List.{flat_map}
 use Rattle.std.specs.Fmt.{decimal}
 use Rattle.brep_tokens.specs.Forms.{continuity_words, flag_text}
 use Rattle.tshape_data.specs.Columns.{edge_columns, edge_number, edge_texts, point_columns, point_number}
-use Rattle.tshape_data.specs.Reps.{form_of_edge, form_of_point, numbers_of_edge, numbers_of_point, texts_of_edge, texts_of_point}
+use Rattle.tshape_data.specs.Reps.{form_of_edge, form_of_point, numbers_of_edge, numbers_of_point, texts_of_edge}
+use Rattle.tshape_data.specs.Reps.{texts_of_point}
 use Rattle.tshape_data.specs.declared.columns.Table.{Table}
 use Rattle.tshape_data.specs.declared.columns.Table.TheVariants.{Surfaces, Meshes}
 use Rattle.tshape_data.specs.declared.columns.Column.{Column}
@@ -66,7 +67,8 @@ abbrev pub edge_flags : EdgeData → List (List ℕ)
 edge_flags d = flag_text d.same_parameter ∷ flag_text d.same_range ∷ flag_text d.degenerated ∷ []
 
 abbrev pub edge_parts : ℕ → EdgeData → List Part
-edge_parts version d = tokens (d.tolerance ++ edge_flags d) ++ (flat_map (edge_rep_parts version) d.reps ++ token (codes "0") ∷ [])
+edge_parts version d = tokens (d.tolerance ++ edge_flags d)
+    ++ (flat_map (edge_rep_parts version) d.reps ++ token (codes "0") ∷ [])
 
 -- `2` and the number of a triangulation
 abbrev pub mesh_parts : Option ℕ → List Part
@@ -74,7 +76,8 @@ mesh_parts None = []
 mesh_parts (Some mesh) = token (codes "2") ∷ entry Meshes mesh ∷ []
 
 abbrev pub face_parts : FaceData → List Part
-face_parts d = token (flag_text d.natural) ∷ (tokens d.tolerance ++ (entry Surfaces d.surface ∷ located d.location ∷ mesh_parts d.mesh))
+face_parts d = token (flag_text d.natural)
+    ∷ (tokens d.tolerance ++ (entry Surfaces d.surface ∷ located d.location ∷ mesh_parts d.mesh))
 
 -- The data of a record in a file of a version.
 abbrev pub payload_parts : ℕ → Payload → List Part

@@ -29,7 +29,8 @@ then_points r read = read >>= λ rep. points_after r (r.reps ++ rep.0 ∷ []) re
 
 -- one of this form after its first parameter, and those after it
 abbrev pub point_then : PointRepsReader → PointForm → List Token → Read (List PointRep)
-point_then r form ts = point_rep_at r.bounds (r.param, form) ts >>= λ rep. reps_from param_at (point_rep_at r.bounds) (r.room - 1) (r.reps ++ rep.0 ∷ []) rep.1
+point_then r form ts = point_rep_at r.bounds (r.param, form) ts >>= λ rep. reps_from param_at (point_rep_at r.bounds)
+    (r.room - 1) (r.reps ++ rep.0 ∷ []) rep.1
 
 -- the numbers of one whose parameters were read
 abbrev pub numbers_then : PointForm → List (List ℕ) → Read (List ℕ) → Read PointRep
@@ -37,9 +38,14 @@ numbers_then form texts read = read >>= λ numbers. Ok (point_rep form numbers.0
 
 abbrev pub at_stage : PointStage → PointRepsReader → List Token → Read (List PointRep)
 at_stage stages.Param r ts = points_after r r.reps ts
-at_stage stages.Form r ts = (point_form_at r.param r.room ts >>= λ form. Ok (option_map (λ f. (r.param, f)) form.0, form.1)) >>= then_reps param_at (point_rep_at r.bounds) r.room r.reps
-at_stage (stages.Texts form) r ts = then_points r (decimals_left r.texts ts >>= λ texts. numbers_then form texts.0 (columns_at r.bounds (point_columns form) texts.1))
-at_stage (stages.Numbers form) r ts = then_points r (numbers_then form r.texts.texts (columns_left r.bounds (point_columns form) r.columns ts))
+at_stage stages.Form r ts =
+    (point_form_at r.param r.room ts >>= λ form. Ok (option_map (λ f. (r.param, f)) form.0, form.1))
+    >>= then_reps param_at (point_rep_at r.bounds) r.room r.reps
+at_stage (stages.Texts form) r ts =
+    then_points r (decimals_left r.texts ts >>= λ texts. numbers_then form texts.0
+    (columns_at r.bounds (point_columns form) texts.1))
+at_stage (stages.Numbers form) r ts =
+    then_points r (numbers_then form r.texts.texts (columns_left r.bounds (point_columns form) r.columns ts))
 at_stage stages.Whole r ts = Ok (r.reps, ts)
 
 -- What is left to read.
@@ -75,7 +81,8 @@ StepsAt stage old t new result = StepsOn (at_stage stage old) t (at_stage stage 
 
 -- what was left at this stage is left, and a token is due, or the end was read
 abbrev pub SettlesFrom : PointStage → PointRepsReader → PointRepsReader → Progress → Type 0
-SettlesFrom stage old new progress = Settles (at_stage stage old) (points_left new) (IsWaiting new) (IsDone new) progress
+SettlesFrom stage old new progress = Settles (at_stage stage old) (points_left new) (IsWaiting new)
+    (IsDone new) progress
 
 -- A token was taken.
 abbrev pub TakesPoints : PointRepsReader → Token → PointRepsReader → Result Progress ReadStop → Type 0

@@ -1,17 +1,20 @@
 -- Reading representations until their end.
-use Rattle.std.specs.Prelude.{ℕ, zero, suc, ◌==◌, if◌then◌else◌, nat_eq, List, [], ◌∷◌, ◌++◌, Option, Some, None, Result, Ok, Err, codes}
+use Rattle.std.specs.Prelude.{ℕ, zero, suc, ◌==◌, if◌then◌else◌, nat_eq, List, [], ◌∷◌, ◌++◌, Option, Some, None}
+use Rattle.std.specs.Prelude.{Result, Ok, Err, codes}
 use Rattle.std.specs.Cmp.Lexicographic.{pointwise}
 use Rattle.std.specs.Option.{option_map, option_map_or}
 use Rattle.brep_tokens.specs.Forms.{continuity_of}
 use Rattle.brep_tokens.specs.declared.text.Token.{Token}
 use Rattle.brep_tokens.specs.declared.fault.ReadCode.TheVariants as faults
 use Rattle.lists.specs.Results.{◌>>=◌}
-use Rattle.entry_readers.specs.Reading.{Read, Refusal, fault, more, at_token, spelled, decimal_at, decimals_at, decimals_from, number_at, ranged_at}
+use Rattle.entry_readers.specs.Reading.{Read, Refusal, fault, more, at_token, spelled, decimal_at, decimals_at}
+use Rattle.entry_readers.specs.Reading.{decimals_from, number_at, ranged_at}
 use Rattle.tshape_data.specs.Columns.{edge_columns, edge_form, edge_texts, point_columns, point_form, second_texts}
 use Rattle.tshape_data.specs.Reps.{edge_rep, point_rep}
 use Rattle.tshape_data.specs.declared.head_bounds.HeadBounds.{HeadBounds}
 use Rattle.tshape_data.specs.declared.columns.Table.{Table}
-use Rattle.tshape_data.specs.declared.columns.Table.TheVariants.{Curve2s, Curves, Polygons, PolygonsOn, Surfaces, Meshes}
+use Rattle.tshape_data.specs.declared.columns.Table.TheVariants.{Curve2s, Curves, Polygons, PolygonsOn, Surfaces}
+use Rattle.tshape_data.specs.declared.columns.Table.TheVariants.{Meshes}
 use Rattle.tshape_data.specs.declared.columns.Column.{Column}
 use Rattle.tshape_data.specs.declared.columns.Column.TheVariants.{Entry, Location, Continuity}
 use Rattle.tshape_data.specs.declared.forms.PointForm.{PointForm}
@@ -81,7 +84,8 @@ point_form_at param room (t ∷ ts) = number_at (t ∷ ts) >>= λ n. point_kind 
 
 -- a parameter and the form after it
 abbrev pub param_at : ℕ → List Token → Read (Option (List ℕ × PointForm))
-param_at room ts = decimal_at ts >>= λ param. point_form_at param.0 room param.1 >>= λ form. Ok (option_map (λ f. (param.0, f)) form.0, form.1)
+param_at room ts = decimal_at ts >>= λ param. point_form_at param.0 room param.1
+    >>= λ form. Ok (option_map (λ f. (param.0, f)) form.0, form.1)
 
 -- ---- the rest of a representation
 

@@ -45,8 +45,10 @@ form_of_edge (edge_reps.SeamPolygons first second mesh location) = edges.SeamPol
 abbrev pub numbers_of_edge : EdgeRep → List ℕ
 numbers_of_edge (edge_reps.Curve curve location texts) = curve ∷ location ∷ []
 numbers_of_edge (edge_reps.Curve2 curve2 surface location texts) = curve2 ∷ surface ∷ location ∷ []
-numbers_of_edge (edge_reps.Seam first second continuity surface location texts) = first ∷ second ∷ continuity ∷ surface ∷ location ∷ []
-numbers_of_edge (edge_reps.Joint continuity first first_location second second_location) = continuity ∷ first ∷ first_location ∷ second ∷ second_location ∷ []
+numbers_of_edge (edge_reps.Seam first second continuity surface location texts) =
+    first ∷ second ∷ continuity ∷ surface ∷ location ∷ []
+numbers_of_edge (edge_reps.Joint continuity first first_location second second_location) =
+    continuity ∷ first ∷ first_location ∷ second ∷ second_location ∷ []
 numbers_of_edge (edge_reps.Polygon polygon location) = polygon ∷ location ∷ []
 numbers_of_edge (edge_reps.PolygonOn polygon_on mesh location) = polygon_on ∷ mesh ∷ location ∷ []
 numbers_of_edge (edge_reps.SeamPolygons first second mesh location) = first ∷ second ∷ mesh ∷ location ∷ []
@@ -63,8 +65,11 @@ texts_of_edge (edge_reps.SeamPolygons first second mesh location) = []
 abbrev pub edge_rep : EdgeForm → List ℕ → List (List ℕ) → EdgeRep
 edge_rep edges.Curve ns texts = edge_reps.Curve (slice_index ns 0) (slice_index ns 1) texts
 edge_rep edges.Curve2 ns texts = edge_reps.Curve2 (slice_index ns 0) (slice_index ns 1) (slice_index ns 2) texts
-edge_rep edges.Seam ns texts = edge_reps.Seam (slice_index ns 0) (slice_index ns 1) (slice_index ns 2) (slice_index ns 3) (slice_index ns 4) texts
-edge_rep edges.Joint ns texts = edge_reps.Joint (slice_index ns 0) (slice_index ns 1) (slice_index ns 2) (slice_index ns 3) (slice_index ns 4)
+edge_rep edges.Seam ns texts = edge_reps.Seam (slice_index ns 0) (slice_index ns 1) (slice_index ns 2)
+    (slice_index ns 3) (slice_index ns 4) texts
+edge_rep edges.Joint ns texts = edge_reps.Joint (slice_index ns 0) (slice_index ns 1) (slice_index ns 2)
+    (slice_index ns 3) (slice_index ns 4)
 edge_rep edges.Polygon ns texts = edge_reps.Polygon (slice_index ns 0) (slice_index ns 1)
 edge_rep edges.PolygonOn ns texts = edge_reps.PolygonOn (slice_index ns 0) (slice_index ns 1) (slice_index ns 2)
-edge_rep edges.SeamPolygons ns texts = edge_reps.SeamPolygons (slice_index ns 0) (slice_index ns 1) (slice_index ns 2) (slice_index ns 3)
+edge_rep edges.SeamPolygons ns texts = edge_reps.SeamPolygons (slice_index ns 0) (slice_index ns 1) (slice_index ns 2)
+    (slice_index ns 3)

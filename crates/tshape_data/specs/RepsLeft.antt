@@ -23,4 +23,6 @@ Settles old new waits done progress.Whole = ((rest : List Token) → new rest �
 module _ {F A : Type 0} (form_at : ℕ → List Token → Read (Option F)) (rep_at : F → List Token → Read A) where
   abbrev pub then_reps : ℕ → List A → Option F × List Token → Read (List A)
   then_reps zero reps form = Ok (reps, form.1)
-  then_reps (suc room) reps form = option_map_or (λ f. rep_at f form.1 >>= λ r. reps_from form_at rep_at room (reps ++ r.0 ∷ []) r.1) form.0 (Ok (reps, form.1))
+  then_reps (suc room) reps form =
+      option_map_or (λ f. rep_at f form.1 >>= λ r. reps_from form_at rep_at room (reps ++ r.0 ∷ []) r.1) form.0
+      (Ok (reps, form.1))

@@ -6,7 +6,8 @@ use Rattle.orientation.specs.declared.kind.Kind.{Kind}
 use Rattle.orientation.specs.declared.kind.Kind.TheVariants.{Ve, Ed, Wi, Fa, Sh, So, CS, Co}
 use Rattle.tshape_data.specs.Columns.{edge_columns, edge_texts, point_columns, second_texts}
 use Rattle.tshape_data.specs.RepReading.{most_reps, size_of}
-use Rattle.tshape_data.specs.Reps.{form_of_edge, form_of_point, numbers_of_edge, numbers_of_point, texts_of_edge, texts_of_point}
+use Rattle.tshape_data.specs.Reps.{form_of_edge, form_of_point, numbers_of_edge, numbers_of_point, texts_of_edge}
+use Rattle.tshape_data.specs.Reps.{texts_of_point}
 use Rattle.tshape_data.specs.declared.head_bounds.HeadBounds.{HeadBounds}
 use Rattle.tshape_data.specs.declared.columns.Column.{Column}
 use Rattle.tshape_data.specs.declared.columns.Column.TheVariants.{Entry, Location, Continuity}

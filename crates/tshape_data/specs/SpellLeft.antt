@@ -70,7 +70,8 @@ point_number_texts p = map part_text (column_parts (point_columns (form_of_point
 -- a representation of an edge: the number of its form, and its other numbers
 abbrev pub edge_number_texts : EdgeRep → List (List ℕ)
 edge_number_texts r =
-    decimal (edge_number (form_of_edge r)) ∷ map part_text (column_parts (edge_columns (form_of_edge r)) (numbers_of_edge r))
+    decimal (edge_number (form_of_edge r)) ∷ map part_text
+    (column_parts (edge_columns (form_of_edge r)) (numbers_of_edge r))
 
 -- a face: its surface, its location, and its triangulation, if it has one
 abbrev pub face_number_texts : FaceData → List (List ℕ)
@@ -88,11 +89,13 @@ rest_texts p = drop 1 (texts_of_point p) ++ point_number_texts p
 
 -- representations of a vertex, and what stands behind them
 abbrev pub points_left : Flags → List PointRep → List (List ℕ)
-points_left flags points = flat_map (λ p. map part_text (point_parts p)) points ++ codes "0" ∷ codes "0" ∷ spell_flags flags ∷ []
+points_left flags points = flat_map (λ p. map part_text (point_parts p)) points ++ codes "0" ∷ codes "0"
+    ∷ spell_flags flags ∷ []
 
 -- the same of an edge
 abbrev pub edges_left : ℕ → Flags → List EdgeRep → List (List ℕ)
-edges_left version flags reps = flat_map (λ r. map part_text (edge_rep_parts version r)) reps ++ codes "0" ∷ spell_flags flags ∷ []
+edges_left version flags reps = flat_map (λ r. map part_text (edge_rep_parts version r)) reps ++ codes "0"
+    ∷ spell_flags flags ∷ []
 
 -- what stands behind a piece
 abbrev pub stage_left : ℕ → Flags → Stage → List (List ℕ)

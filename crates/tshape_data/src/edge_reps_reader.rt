@@ -6,7 +6,8 @@ ghost use Rattle.brep_tokens.specs.declared.fault.Progress.TheVariants as progre
 ghost use Rattle.brep_tokens.specs.declared.text.Token.{Token};
 ghost use Rattle.tshape_data.specs.Columns.{edge_columns as columns_of};
 ghost use Rattle.tshape_data.specs.ColumnsLeft.{HasNumbers, IsNumberDue};
-ghost use Rattle.tshape_data.specs.EdgesLeft.{IsStepped, IsWaiting, SettlesFrom, StepsAt, TakesEdges, at_stage, edge_then, edges_left};
+ghost use Rattle.tshape_data.specs.EdgesLeft.{IsStepped, IsWaiting, SettlesFrom, StepsAt, TakesEdges, at_stage};
+ghost use Rattle.tshape_data.specs.EdgesLeft.{edge_then, edges_left};
 ghost use Rattle.tshape_data.specs.RepReading.{edge_reps_at};
 ghost use Rattle.tshape_data.specs.declared.edge_reps_reader.EdgeStage.TheVariants as stages;
 

@@ -33,7 +33,8 @@ pub struct EdgeData {
     pub reps: EdgeReps,
 }
 
-/// The data of a face: whether its surface bounds it, its tolerance, its surface (0 for none), its location and its triangulation.
+/// The data of a face: whether its surface bounds it, its tolerance, its surface (0 for none), its location and its
+/// triangulation.
 #[derive(Drop)]
 pub struct FaceData {
     pub natural: bool,

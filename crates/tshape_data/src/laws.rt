@@ -1,5 +1,6 @@
 //! Laws of heads. Each function does nothing: its contract is the law.
-ghost use Rattle.tshape_data.specs.Laws.{HeadsAreExact, HeadsCanBeSpelled, HeadsTell, LinesAreExact, RenumberingKeepsParts};
+ghost use Rattle.tshape_data.specs.Laws.{HeadsAreExact, HeadsCanBeSpelled, HeadsTell, LinesAreExact};
+ghost use Rattle.tshape_data.specs.Laws.{RenumberingKeepsParts};
 
 use brep_tokens::laws::{forms_are_exact, written_is_read};
 use entry_readers::laws::fields_are_exact;
@@ -23,7 +24,8 @@ pub fn heads_tell()
     signs_and_names_tell();
 }
 
-/// The locations of a sound head are those of its file; with others in their stead it is sound, and the same but for them.
+/// The locations of a sound head are those of its file; with others in their stead it is sound, and the same but for
+/// them.
 pub fn renumbering_keeps_parts()
     ensures { RenumberingKeepsParts }
 {}

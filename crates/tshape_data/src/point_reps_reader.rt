@@ -6,7 +6,8 @@ ghost use Rattle.brep_tokens.specs.declared.fault.Progress.TheVariants as progre
 ghost use Rattle.brep_tokens.specs.declared.text.Token.{Token};
 ghost use Rattle.tshape_data.specs.Columns.{point_columns as columns_of};
 ghost use Rattle.tshape_data.specs.ColumnsLeft.{HasNumbers, IsNumberDue};
-ghost use Rattle.tshape_data.specs.PointsLeft.{IsStepped, IsWaiting, SettlesFrom, StepsAt, TakesPoints, at_stage, point_then, points_left};
+ghost use Rattle.tshape_data.specs.PointsLeft.{IsStepped, IsWaiting, SettlesFrom, StepsAt, TakesPoints, at_stage};
+ghost use Rattle.tshape_data.specs.PointsLeft.{point_then, points_left};
 ghost use Rattle.tshape_data.specs.RepReading.{points_at};
 ghost use Rattle.tshape_data.specs.declared.point_reps_reader.PointStage.TheVariants as stages;
 

@@ -3,7 +3,8 @@ ghost use Rattle.std.specs.Prelude.{◌≡◌, ◌≤◌, ◌⊎◌, Err, List, 
 ghost use Rattle.entry_readers.specs.Reading.{decimals_at, more};
 ghost use Rattle.entry_readers.specs.Takes.{Takes};
 ghost use Rattle.brep_tokens.specs.declared.text.Token.{Token};
-ghost use Rattle.tshape_data.specs.HeadLeft.{AnswersOrStops, DataAreLeft, IsDone, IsWaiting, TakesAt, head_left, kind_of, payload_from};
+ghost use Rattle.tshape_data.specs.HeadLeft.{AnswersOrStops, DataAreLeft, IsDone, IsWaiting, TakesAt, head_left};
+ghost use Rattle.tshape_data.specs.HeadLeft.{kind_of, payload_from};
 ghost use Rattle.tshape_data.specs.HeadReading.{head_at, room_of};
 ghost use Rattle.tshape_data.specs.RepReading.{most_reps};
 ghost use Rattle.tshape_data.specs.declared.stage.Stage.TheVariants as stages;

@@ -1,6 +1,7 @@
 //! Representations from their numbers and decimals.
 ghost use Rattle.std.specs.Prelude.{◌≡◌, []};
-ghost use Rattle.tshape_data.specs.Columns.{IsPolygonal, edge_columns, edge_texts as text_count, point_columns, second_texts as second_count};
+ghost use Rattle.tshape_data.specs.Columns.{IsPolygonal, edge_columns, edge_texts as text_count, point_columns};
+ghost use Rattle.tshape_data.specs.Columns.{second_texts as second_count};
 ghost use Rattle.tshape_data.specs.ColumnsLeft.{HasNumbers, numbers_of};
 ghost use Rattle.tshape_data.specs.Reps.{edge_rep as edge_rep_of, point_rep as point_rep_of};
 

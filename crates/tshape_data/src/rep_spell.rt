@@ -5,7 +5,8 @@ ghost use Rattle.entry_readers.specs.Spelled.{AreShort};
 ghost use Rattle.tshape_data.specs.Columns.{HasContinuity, IsPolygonal, p_curve_texts, point_number};
 ghost use Rattle.tshape_data.specs.Parts.{texts_in};
 ghost use Rattle.tshape_data.specs.Reps.{form_of_edge, form_of_point, texts_of_edge, texts_of_point};
-ghost use Rattle.tshape_data.specs.SpellLeft.{CanGiveChunk, chunk_left, edge_number_texts, first_texts, point_number_texts, rest_texts, word_text, words_of};
+ghost use Rattle.tshape_data.specs.SpellLeft.{CanGiveChunk, chunk_left, edge_number_texts, first_texts};
+ghost use Rattle.tshape_data.specs.SpellLeft.{point_number_texts, rest_texts, word_text, words_of};
 
 use crate::chunks::{ChunkSpell, words_alone, words_around};
 use crate::head_words::Word;

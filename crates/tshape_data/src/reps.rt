@@ -24,8 +24,9 @@ pub enum PointRep {
     },
 }
 
-/// A representation of an edge. `texts` are the first and the last parameter, and in version 2 with p-curves then the first and
-/// the last UV point. A continuity is the place of its word among `C0`, `C1`, `C2`, `C3`, `CN`, `G1` and `G2`, from 0.
+/// A representation of an edge. `texts` are the first and the last parameter, and in version 2 with p-curves then the
+/// first and the last UV point. A continuity is the place of its word among `C0`, `C1`, `C2`, `C3`, `CN`, `G1` and
+/// `G2`, from 0.
 #[derive(Drop)]
 pub enum EdgeRep {
     Curve {

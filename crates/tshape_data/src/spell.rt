@@ -3,7 +3,9 @@ ghost use Rattle.std.specs.Prelude.{◌≡◌, ◌++◌, IfNone, IfSome, []};
 ghost use Rattle.std.specs.List.{AllByRecursion};
 ghost use Rattle.tshape_data.specs.Parts.{edge_flags};
 ghost use Rattle.tshape_data.specs.Short.{IsShortEdgeRep, IsShortPoint};
-ghost use Rattle.tshape_data.specs.SpellLeft.{CanGiveChunk, CanGiveHead, CanGiveStage, IsBegun, chunk_left, edges_left, face_number_texts, points_left, range_left, stage_left, tokens_left, words_of};
+ghost use Rattle.tshape_data.specs.SpellLeft.{CanGiveChunk, CanGiveHead, CanGiveStage, IsBegun, chunk_left, edges_left};
+ghost use Rattle.tshape_data.specs.SpellLeft.{face_number_texts, points_left, range_left, stage_left, tokens_left};
+ghost use Rattle.tshape_data.specs.SpellLeft.{words_of};
 
 use crate::chunks::{ChunkSpell, words_alone, words_around};
 use crate::head::{EdgeData, FaceData, Flags, Head, Payload};

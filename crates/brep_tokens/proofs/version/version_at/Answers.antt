@@ -10,8 +10,11 @@ returns-then-is_text c = (
   (
     _,
     _,
-    says_first c.args.bytes.now c.args.at c.args.line c.line_end-end.result c.past_line-next.result c.line_end-end.ensures.size (sym c.is_text.ensures ∙ c.if-is_text.true),
-    words_after c.args.bytes.now c.args.at c.args.line c.line_end-end.result c.past_line-next.result c.line_end-end.ensures.size c.line_end-end.ensures.fits c.past_line-next.ensures.next c.past_line-next.ensures.none,
+    says_first c.args.bytes.now c.args.at c.args.line c.line_end-end.result c.past_line-next.result
+        c.line_end-end.ensures.size (sym c.is_text.ensures ∙ c.if-is_text.true),
+    words_after c.args.bytes.now c.args.at c.args.line c.line_end-end.result c.past_line-next.result
+        c.line_end-end.ensures.size c.line_end-end.ensures.fits c.past_line-next.ensures.next
+        c.past_line-next.ensures.none,
   ),
 )
 
@@ -22,13 +25,19 @@ returns-then-is_text-2 c = (
   (
     _,
     _,
-    says_second c.args.bytes.now c.args.at c.args.line c.line_end-end.result c.past_line-next.result c.line_end-end.ensures.size (sym c.is_text.ensures ∙ c.if-is_text.false) (sym c.is_text-2.ensures ∙ c.if-is_text-2.true),
-    words_after c.args.bytes.now c.args.at c.args.line c.line_end-end.result c.past_line-next.result c.line_end-end.ensures.size c.line_end-end.ensures.fits c.past_line-next.ensures.next c.past_line-next.ensures.none,
+    says_second c.args.bytes.now c.args.at c.args.line c.line_end-end.result c.past_line-next.result
+        c.line_end-end.ensures.size (sym c.is_text.ensures ∙ c.if-is_text.false) (sym c.is_text-2.ensures
+        ∙ c.if-is_text-2.true),
+    words_after c.args.bytes.now c.args.at c.args.line c.line_end-end.result c.past_line-next.result
+        c.line_end-end.ensures.size c.line_end-end.ensures.fits c.past_line-next.ensures.next
+        c.past_line-next.ensures.none,
   ),
 )
 
 pub returns : goal.returns
 unfolding version_line
 returns c =
-    let says = says_none c.args.bytes.now c.args.at c.args.line c.line_end-end.result c.past_line-next.result c.line_end-end.ensures.size (sym c.is_text.ensures ∙ c.if-is_text.false) (sym c.is_text-2.ensures ∙ c.if-is_text-2.false) in
+    let says = says_none c.args.bytes.now c.args.at c.args.line c.line_end-end.result c.past_line-next.result
+    c.line_end-end.ensures.size (sym c.is_text.ensures ∙ c.if-is_text.false) (sym c.is_text-2.ensures
+    ∙ c.if-is_text-2.false) in
     rw (says, c.fault.ensures) refl

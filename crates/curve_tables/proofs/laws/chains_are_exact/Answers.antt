@@ -1,4 +1,4 @@
-use Rattle.curve_tables.proofs.ChainLaws as laws
+use Rattle.curve_tables.proofs.ChainBack as laws
 use Rattle.curve_tables.proofs.laws.chains_are_exact.Goals as goal
 
 pub returns : goal.returns

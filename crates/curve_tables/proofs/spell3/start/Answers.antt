@@ -7,22 +7,26 @@ use Rattle.curve_tables.proofs.spell3.start.Goals as goal
 
 pub returns-in-Trimmed-clause-left : goal.returns-in-Trimmed-clause-left
 returns-in-Trimmed-clause-left c =
-    ap (λ z. z ++ spelling3 c.get.result.now) c.coded.ensures.left ∙ ap (λ b. decimal 8 ∷ (c.in-Trimmed.texts ++ spelling3 b)) c.get.ensures
+    ap (λ z. z ++ spelling3 c.get.result.now) c.coded.ensures.left
+    ∙ ap (λ b. decimal 8 ∷ (c.in-Trimmed.texts ++ spelling3 b)) c.get.ensures
     ∙ sym (spelling_around c.in-Trimmed.texts c.in-Trimmed.basis Trimmed) ∙ ap spelling3 (sym c.in-Trimmed.is)
 
 pub returns-in-Trimmed-clause-can : goal.returns-in-Trimmed-clause-can
 returns-in-Trimmed-clause-can c = record {
   part_can = c.coded.ensures.can;
-  basis_can = rw c.get.ensures (can_spell_basis c.in-Trimmed.texts c.in-Trimmed.basis Trimmed (rw c.in-Trimmed.is at c.requires)).1;
+  basis_can = rw c.get.ensures (can_spell_basis c.in-Trimmed.texts c.in-Trimmed.basis Trimmed
+      (rw c.in-Trimmed.is at c.requires)).1;
 }
 
 pub returns-in-Offset-clause-left : goal.returns-in-Offset-clause-left
 returns-in-Offset-clause-left c =
-    ap (λ z. z ++ spelling3 c.get-in-Offset.result.now) c.coded-in-Offset.ensures.left ∙ ap (λ b. decimal 9 ∷ (c.in-Offset.texts ++ spelling3 b)) c.get-in-Offset.ensures
+    ap (λ z. z ++ spelling3 c.get-in-Offset.result.now) c.coded-in-Offset.ensures.left
+    ∙ ap (λ b. decimal 9 ∷ (c.in-Offset.texts ++ spelling3 b)) c.get-in-Offset.ensures
     ∙ sym (spelling_around c.in-Offset.texts c.in-Offset.basis Offset) ∙ ap spelling3 (sym c.in-Offset.is)
 
 pub returns-in-Offset-clause-can : goal.returns-in-Offset-clause-can
 returns-in-Offset-clause-can c = record {
   part_can = c.coded-in-Offset.ensures.can;
-  basis_can = rw c.get-in-Offset.ensures (can_spell_basis c.in-Offset.texts c.in-Offset.basis Offset (rw c.in-Offset.is at c.requires)).1;
+  basis_can = rw c.get-in-Offset.ensures (can_spell_basis c.in-Offset.texts c.in-Offset.basis Offset
+      (rw c.in-Offset.is at c.requires)).1;
 }

@@ -6,4 +6,5 @@ use Rattle.script_text.proofs.writing.push_merge.Goals as goal
 
 pub returns : goal.returns
 returns c =
-    joined_after _ _ _ _ _ _ c.in_ok-extend_from_slice.ensures.items (ap (λ ns. map spell_mention (map bare_mention ns)) c.as_slice.ensures) c.in_ok-push_names.ensures
+    joined_after _ _ _ _ _ _ c.in_ok-extend_from_slice.ensures.items
+    (ap (λ ns. map spell_mention (map bare_mention ns)) c.as_slice.ensures) c.in_ok-push_names.ensures

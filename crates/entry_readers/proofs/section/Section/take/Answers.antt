@@ -8,14 +8,20 @@ use Rattle.entry_readers.proofs.section.Section.take.Goals as goal
 pub returns-else-self-eq0 : goal.returns-else-self-eq0
 returns-else-self-eq0 g c =
     let due : 0 < c.args.self.now.due - 1 = omega (arith, c.if-self-eq0.false) in
-    let left : (ts : List Token) → g.R.EntryReader.left c.replace-reader.new.dest ts ≡ g.R.EntryReader.read ts = λ ts. rw c.replace-reader.ensures.after (c.begin.ensures.left ts) in
-    let is_open : g.R.EntryReader.left c.replace-reader.new.dest [] ≡ Err more = rw c.replace-reader.ensures.after c.begin.ensures.open in
+    let left : (ts : List Token) → g.R.EntryReader.left c.replace-reader.new.dest ts ≡ g.R.EntryReader.read ts =
+    λ ts. rw c.replace-reader.ensures.after (c.begin.ensures.left ts) in
+    let is_open : g.R.EntryReader.left c.replace-reader.new.dest [] ≡ Err more =
+    rw c.replace-reader.ensures.after c.begin.ensures.open in
     let took = rw c.in-Ok-Whole.field-0-is at c.in-Ok-Whole.ensures in
-    let read : (rest : List Token) → g.R.EntryReader.left c.args.self.now.reader (c.args.t.now ∷ rest) ≡ Ok (c.finish.result, rest) =
+    let read : (rest : List Token) → g.R.EntryReader.left c.args.self.now.reader (c.args.t.now ∷ rest) ≡ Ok
+    (c.finish.result, rest) =
     λ rest. sym (took.0 rest) ∙ rw (← c.replace-reader.ensures.value) (c.finish.ensures rest) in (
-      λ rest. fresh g.R.EntryReader.read (g.R.EntryReader.left c.replace-reader.new.dest) c.append.new.entries.items (c.args.self.now.due - 1) due left rest
+      λ rest. fresh g.R.EntryReader.read (g.R.EntryReader.left c.replace-reader.new.dest) c.append.new.entries.items
+          (c.args.self.now.due - 1) due left rest
           ∙ ap (λ xs. entries_from g.R.EntryReader.read xs (c.args.self.now.due - 1) rest) c.in-Ok.ensures
-          ∙ sym (moved g.R.EntryReader.read (g.R.EntryReader.left c.args.self.now.reader) c.args.self.now.entries.items c.args.self.now.due c.requires.due c.finish.result (c.args.t.now ∷ rest) rest (read rest)),
-      fresh_open g.R.EntryReader.read (g.R.EntryReader.left c.replace-reader.new.dest) c.append.new.entries.items (c.args.self.now.due - 1) due is_open,
+          ∙ sym (moved g.R.EntryReader.read (g.R.EntryReader.left c.args.self.now.reader) c.args.self.now.entries.items
+          c.args.self.now.due c.requires.due c.finish.result (c.args.t.now ∷ rest) rest (read rest)),
+      fresh_open g.R.EntryReader.read (g.R.EntryReader.left c.replace-reader.new.dest) c.append.new.entries.items
+          (c.args.self.now.due - 1) due is_open,
       (due, rw c.replace-reader.ensures.after c.begin.ensures.waits),
     )

@@ -4,10 +4,13 @@ use Rattle.lists.proofs.Iterators.{first_of_all, next_item, progress, rest_of_al
 use Rattle.entry_readers.proofs.spell.DecimalsSpellIterator.next.Goals as goal
 
 pub of-requires : goal.of-requires
-of-requires c = first_of_all IsShort c.args.self.now.texts.now c.args.self.now.at c.in-Some.x.now c.in-Some.ensures.some c.requires
+of-requires c = first_of_all IsShort c.args.self.now.texts.now c.args.self.now.at c.in-Some.x.now
+    c.in-Some.ensures.some c.requires
 
 pub returns-in-Some-clause-steps : goal.returns-in-Some-clause-steps
-returns-in-Some-clause-steps c = next_item c.args.self.now.texts.now c.args.self.now.at c.in-Some.x.now c.in-Some.ensures.some ∙ ap (λ z. z ∷ drop (c.args.self.now.at + 1) c.args.self.now.texts.now) (sym c.of.ensures)
+returns-in-Some-clause-steps c =
+    next_item c.args.self.now.texts.now c.args.self.now.at c.in-Some.x.now c.in-Some.ensures.some
+    ∙ ap (λ z. z ∷ drop (c.args.self.now.at + 1) c.args.self.now.texts.now) (sym c.of.ensures)
 
 pub returns-in-Some-clause-goes : goal.returns-in-Some-clause-goes
 returns-in-Some-clause-goes c =

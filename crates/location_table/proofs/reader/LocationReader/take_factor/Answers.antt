@@ -20,10 +20,12 @@ returns-in-Ok-push c =
     let q : to_z w64 (of_z w64 c.args.power) ≡ c.args.power = to_z-of_z w64 c.args.power c.ranges.power in
     let e = c.in-Ok.ensures in
     let pushed = rw q at c.in-Ok-push.ensures.ok in
-    let is = taken c.args.before.now c.args.self.now.factors (factor c.args.place c.args.power) c.in-Ok.word c.args.self.now.word c.word.result.now (to_z w64 (of_z w64 c.args.power))
+    let is = taken c.args.before.now c.args.self.now.factors (factor c.args.place c.args.power) c.in-Ok.word
+    c.args.self.now.word c.word.result.now (to_z w64 (of_z w64 c.args.power))
     c.requires.holds.within c.requires.from c.requires.earlier c.requires.holds.word c.word.ensures.word q
     (record { passes = e.within; factors = e.factors; power_is = e.power; product = e.word; made = e.ok }) in (
-      λ rest. ap (λ fs. product (factors_from (length c.args.before.now) (words_of c.args.before.now) fs rest)) pushed ∙ ap product (sym (is.read c.args.t.now rest (c.requires.answer rest))),
+      λ rest. ap (λ fs. product (factors_from (length c.args.before.now) (words_of c.args.before.now) fs rest)) pushed
+          ∙ ap product (sym (is.read c.args.t.now rest (c.requires.answer rest))),
       refl,
       record {
         word = is.word ∙ ap (word_of_factors (words_of c.args.before.now)) (sym pushed);

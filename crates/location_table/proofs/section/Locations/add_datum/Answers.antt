@@ -11,4 +11,7 @@ invariant_of-self-in-Ok c =
     let number = ap (λ es. length (datums_of es) + 1) (sym c.self.view_is) in
     let place = c.len-place.ensures.len ∙ ap length (sym c.self.view_is) in
     rw (c.in-Ok.ensures.entries, c.in-Ok.ensures.words, c.in_ok-append.ensures.ok)
-    (with_datum c.self.inside.identity c.self.inside.held.entries.items c.self.inside.held.words.items c.self.inside.datums.items c.self.invariant room c.args.texts c.in_ok-word.word (length (datums_of c.args.self.now) + 1) _ number place (c.in_ok-word.ensures ∙ ap (λ n. datum_word (n + 1)) c.datums.ensures))
+    (with_datum c.self.inside.identity c.self.inside.held.entries.items c.self.inside.held.words.items
+    c.self.inside.datums.items c.self.invariant room c.args.texts c.in_ok-word.word
+    (length (datums_of c.args.self.now) + 1) _ number place
+    (c.in_ok-word.ensures ∙ ap (λ n. datum_word (n + 1)) c.datums.ensures))

@@ -6,6 +6,7 @@ use Rattle.location_table.proofs.section.Locations.multiplied.Given as goal
 
 abbrev pub invariant-loop-factor : goal.invariant-loop-factor
 invariant-loop-factor l = record {
-  made : fold (with_factor (words_of l.self)) l.word (drop l.factor-index l.factor-items) ≡ word_of_factors (words_of l.self) l.factors;
+  made : fold (with_factor (words_of l.self)) l.word (drop l.factor-index l.factor-items) ≡ word_of_factors
+      (words_of l.self) l.factors;
   within : AreWithin (length l.self) (words_of l.self) l.word (drop l.factor-index l.factor-items);
 }
