@@ -1,5 +1,6 @@
 -- What a channel that was added begins.
-use Rattle.std.proofs.Common.{◌≡◌, ℕ, List, [], ◌∷◌, ◌++◌, length, Result, Ok, Err, IfOk, OnOk, IsErrOf, Some, false, refl, sym, ap, ◌∙◌}
+use Rattle.std.proofs.Common.{◌≡◌, ℕ, List, [], ◌∷◌, ◌++◌, length, Result, Ok, Err}
+use Rattle.std.proofs.Common.{IfOk, OnOk, IsErrOf, Some, false, refl, sym, ap, ◌∙◌}
 use Rattle.brep_desk.specs.Shown.{closed, tells_all, ChangesOnly}
 use Rattle.brep_desk.specs.Calls.{BeginsReading, BeginsWriting, Ends}
 use Rattle.brep_desk.specs.declared.outputs.Output.{Output}
@@ -9,11 +10,16 @@ use Rattle.brep_desk.specs.declared.counts.Counts.{Counts}
 use Rattle.brep_desk.specs.Kept.{left_of, state_of, held_in, written_in, ended_in, shown_by}
 use Rattle.brep_desk.proofs.ChannelLists.{of_channel-pushed, of_channel-pushed_kept}
 
-pub IfOk-by : {T E : Type 0} {P R : T → Type 0} {Q : Type 0} (r : Result T E) → IfOk r P → OnOk r Q → ((x : T) → P x → Q → R x) → IfOk r R
+pub IfOk-by : {T E : Type 0} {P R : T → Type 0} {Q : Type 0} (r : Result T E) → IfOk r P → OnOk r Q
+    → ((x : T) → P x → Q → R x) → IfOk r R
 IfOk-by (Ok x) p q f = f x p q
 IfOk-by (Err e) p q f = tt
 
-pub BeginsReading-pushed : (fs : List (List ℕ × List ℕ)) (os : List Output) (cs new : List Channel) (c : Channel) (name bytes : List ℕ) (k : ℕ) (before after : Counts) → held_in fs name ≡ Some bytes → c ≡ record { name = name; state = Reading; bytes = bytes; at = 0 } → new ≡ cs ++ c ∷ [] → k ≡ length cs → BeginsReading tells_all (shown_by fs os cs before) (shown_by fs os new after) name k
+pub BeginsReading-pushed :
+    (fs : List (List ℕ × List ℕ)) (os : List Output) (cs new : List Channel) (c : Channel) (name bytes : List ℕ) (k : ℕ)
+    (before after : Counts) → held_in fs name ≡ Some bytes
+    → c ≡ record { name = name; state = Reading; bytes = bytes; at = 0 } → new ≡ cs ++ c ∷ [] → k ≡ length cs
+    → BeginsReading tells_all (shown_by fs os cs before) (shown_by fs os new after) name k
 BeginsReading-pushed fs os cs new c name bytes k before after holds opens is at =
     let reader : Channel = record { name = name; state = Reading; bytes = bytes; at = 0 } in
     let pushed : new ≡ cs ++ reader ∷ [] = is ∙ ap (λ (x : Channel). cs ++ x ∷ []) opens in
@@ -27,7 +33,12 @@ BeginsReading-pushed fs os cs new c name bytes k before after holds opens is at 
       gives = λ _. holds ∙ ap Some (sym left.here);
     }
 
-pub BeginsWriting-pushed : (fs : List (List ℕ × List ℕ)) (os outs : List Output) (cs new : List Channel) (name own bytes : List ℕ) (k : ℕ) (before after : Counts) → ChangesOnly (written_in os) (written_in outs) name (Some []) → ChangesOnly (ended_in os) (ended_in outs) name false → own ≡ name → bytes ≡ [] → new ≡ cs ++ (record { name = own; state = Writing; bytes = bytes; at = 0 }) ∷ [] → k ≡ length cs → BeginsWriting tells_all (shown_by fs os cs before) (shown_by fs outs new after) name k
+pub BeginsWriting-pushed :
+    (fs : List (List ℕ × List ℕ)) (os outs : List Output) (cs new : List Channel) (name own bytes : List ℕ) (k : ℕ)
+    (before after : Counts) → ChangesOnly (written_in os) (written_in outs) name (Some [])
+    → ChangesOnly (ended_in os) (ended_in outs) name false → own ≡ name → bytes ≡ []
+    → new ≡ cs ++ (record { name = own; state = Writing; bytes = bytes; at = 0 }) ∷ [] → k ≡ length cs
+    → BeginsWriting tells_all (shown_by fs os cs before) (shown_by fs outs new after) name k
 BeginsWriting-pushed fs os outs cs new name own bytes k before after written ended owns none is at =
     let writer : Channel = record { name = own; state = Writing; bytes = bytes; at = 0 } in
     record {
@@ -42,5 +53,8 @@ pub refusal_is : {T E : Type 0} (r : Result T E) (e f : E) → r ≡ Err e → I
 refusal_is r e f is of = cc
 
 -- the channels before and after, by other names for them
-pub Ends-by : (fs : List (List ℕ × List ℕ)) (os outs : List Output) (cs was new ends : List Channel) (k : ℕ) (before after : Counts) → was ≡ cs → new ≡ ends → Ends tells_all (shown_by fs os was before) (shown_by fs outs ends after) k → Ends tells_all (shown_by fs os cs before) (shown_by fs outs new after) k
+pub Ends-by : (fs : List (List ℕ × List ℕ)) (os outs : List Output) (cs was new ends : List Channel) (k : ℕ)
+    (before after : Counts) → was ≡ cs → new ≡ ends
+    → Ends tells_all (shown_by fs os was before) (shown_by fs outs ends after) k
+    → Ends tells_all (shown_by fs os cs before) (shown_by fs outs new after) k
 Ends-by fs os outs cs was new ends k before after old later p = rw (later, ← old) p

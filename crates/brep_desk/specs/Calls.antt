@@ -1,6 +1,7 @@
 -- What the calls of a desk do where they succeed. A call that fails changes nothing that is shown.
-use Rattle.std.specs.Prelude.{◌≡◌, ◌≢◌, ℕ, ◌<◌, ◌≤◌, Bool, true, false, IsTrue, List, [], ◌++◌, length, take, drop, Some, unwrap_or}
-use Rattle.brep_desk.specs.Shown.{ChannelState, closed, reading, writing, Shown, Tells, ChangesOnly}
+use Rattle.std.specs.Prelude.{◌≡◌, ◌≢◌, ℕ, ◌<◌, ◌≤◌, Bool, true, false, IsTrue, List, [], length, take, Some}
+use Rattle.brep_desk.specs.Shown.{ChannelState, closed, reading, writing, Shown, Tells}
+use Rattle.brep_desk.specs.Shown.{ChangesOnly, EmptiesOnly, AppendsOnly, TakesOnly}
 
 -- A channel is open for reading the name, and has all that the name holds.
 pub record BeginsReading (t : Tells) (old new : Shown) (name : List ℕ) (c : ℕ) : Type 0 where
@@ -19,7 +20,7 @@ pub record Reads (t : Tells) (old new : Shown) (c : ℕ) (room count : ℕ) (giv
   pub opened : new.opened ≡ old.opened
   pub fits : count ≤ room
   pub is_open : IsTrue t.opened → (name : List ℕ) × (old.opened c ≡ reading name)
-  pub left : IsTrue t.left → ChangesOnly old.left new.left c (drop count (old.left c))
+  pub left : IsTrue t.left → TakesOnly old.left new.left c count
   pub bytes : IsTrue t.left → given ≡ take count (old.left c)
   pub at_end : IsTrue t.left → 0 < room → count ≡ 0 → old.left c ≡ []
 
@@ -27,9 +28,13 @@ pub record Reads (t : Tells) (old new : Shown) (c : ℕ) (room count : ℕ) (giv
 pub record BeginsWriting (t : Tells) (old new : Shown) (name : List ℕ) (c : ℕ) : Type 0 where
   pub held : new.held ≡ old.held
   pub left : new.left ≡ old.left
-  pub written : IsTrue t.written → ChangesOnly old.written new.written name (Some [])
+  pub written : IsTrue t.written → EmptiesOnly old.written new.written name
   pub ended : IsTrue t.ended → ChangesOnly old.ended new.ended name false
   pub opened : IsTrue t.opened → ChangesOnly old.opened new.opened c (writing name)
+
+-- The bytes that were read stand at the front of the buffer, which is all the room that there is.
+abbrev pub ReadsInto : Tells → Shown → Shown → ℕ → List ℕ → List ℕ → ℕ → Type 0
+ReadsInto t old new c buffer filled count = Reads t old new c (length buffer) count (take count filled)
 
 -- The first bytes of those handed in are appended under the channel's name, at least one if there is one.
 pub record Writes (t : Tells) (old new : Shown) (c : ℕ) (bytes : List ℕ) (count : ℕ) : Type 0 where
@@ -40,7 +45,8 @@ pub record Writes (t : Tells) (old new : Shown) (c : ℕ) (bytes : List ℕ) (co
   pub fits : count ≤ length bytes
   pub some : 0 < length bytes → 0 < count
   pub is_open : IsTrue t.opened → (name : List ℕ) × (old.opened c ≡ writing name)
-  pub written : IsTrue t.written → (name : List ℕ) → old.opened c ≡ writing name → ChangesOnly old.written new.written name (Some (unwrap_or (old.written name) [] ++ take count bytes))
+  pub written : IsTrue t.written
+      → (name : List ℕ) → old.opened c ≡ writing name → AppendsOnly old.written new.written name (take count bytes)
 
 -- whether writing of the channel's name has ended, after it was closed
 abbrev pub EndsName : ChannelState → (List ℕ → Bool) → (List ℕ → Bool) → Type 0

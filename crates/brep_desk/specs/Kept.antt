@@ -1,8 +1,10 @@
 -- What files, outputs and channels that are kept in memory show.
-use Rattle.std.specs.Prelude.{◌≡◌, ℕ, zero, suc, Bool, true, false, if◌then◌else◌, nat_eq, IsTrue, List, [], ◌∷◌, drop, Option, Some, None, is_some}
+use Rattle.std.specs.Prelude.{◌≡◌, ℕ, zero, suc, ◌≤◌, ◌-◌, ◌^◌, ◌⊎◌, Bool, true, false, if◌then◌else◌, nat_eq, IsTrue}
+use Rattle.std.specs.Prelude.{List, [], ◌∷◌, length, drop, Option, Some, None, is_some}
 use Rattle.std.specs.Borrow.{Bor}
 use Rattle.std.specs.Cmp.Lexicographic.{pointwise}
-use Rattle.brep_desk.specs.Shown.{ChannelState, closed, reading, writing, Shown}
+use Rattle.brep_desk.specs.Shown.{ChannelState, closed, reading, writing, Shown, tells_all, EmptiesOnly, AppendsOnly}
+use Rattle.brep_desk.specs.Calls.{BeginsReading, BeginsWriting, Writes, Ends}
 use Rattle.brep_desk.specs.declared.outputs.Output.{Output}
 use Rattle.brep_desk.specs.declared.channels.Channel.{Channel}
 use Rattle.brep_desk.specs.declared.channels.State.{State}
@@ -65,6 +67,38 @@ shown_by files outputs channels counts = record {
   strays = counts.strays;
   writing_calls = counts.writing_calls;
 }
+
+-- nothing is written under the name any more, and what is written under others stays
+abbrev pub Empties : List Output → List Output → List ℕ → Type 0
+Empties old new name = EmptiesOnly (written_in old) (written_in new) name
+
+-- the bytes are appended to what is written under the name, and what is written under others stays
+abbrev pub Appends : List Output → List Output → List ℕ → List ℕ → Type 0
+Appends old new name bytes = AppendsOnly (written_in old) (written_in new) name bytes
+
+-- whatever is written and counted: the reading of the name of one of the files begins over the channel
+abbrev pub OpensInput : List (List ℕ × List ℕ) → List Channel → List Channel → List ℕ → ℕ → Type 0
+OpensInput files old new name c = (outputs : List Output) (before after : Counts)
+    → BeginsReading tells_all (shown_by files outputs old before) (shown_by files outputs new after) name c
+
+-- whatever is held and counted: the writing of the name begins over the channel
+abbrev pub OpensOutput : List Output → List Output → List Channel → List Channel → List ℕ → ℕ → Type 0
+OpensOutput outputs begun old new name c = (files : List (List ℕ × List ℕ)) (before after : Counts)
+    → BeginsWriting tells_all (shown_by files outputs old before) (shown_by files begun new after) name c
+
+-- whatever is held and counted: the first bytes, so many, are written over the channel
+abbrev pub FillsOutput : List Output → List Output → List Channel → ℕ → List ℕ → ℕ → Type 0
+FillsOutput old new channels c bytes count = (files : List (List ℕ × List ℕ)) (before after : Counts)
+    → Writes tells_all (shown_by files old channels before) (shown_by files new channels after) c bytes count
+
+-- whatever is held and counted: the channel is closed
+abbrev pub ClosesChannel : List Output → List Output → List Channel → List Channel → ℕ → Type 0
+ClosesChannel outputs ended old new c = (files : List (List ℕ × List ℕ)) (before after : Counts)
+    → Ends tells_all (shown_by files outputs old before) (shown_by files ended new after) c
+
+-- the name is not held, or only the last number is left for a channel
+abbrev pub CannotOpenInput : List (List ℕ × List ℕ) → List Channel → List ℕ → Type 0
+CannotOpenInput files channels name = held_in files name ≡ None ⊎ 2 ^ 64 - 1 ≤ length channels
 
 -- a reference to bytes, or none
 abbrev pub Shows : Option (Bor (List ℕ)) → Option (List ℕ) → Type 0

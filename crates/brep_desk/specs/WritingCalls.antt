@@ -1,5 +1,5 @@
 -- Calls of writing: to begin writing, to write, and to end a channel of writing, whether they fail or not.
-use Rattle.std.specs.Prelude.{◌≡◌, ◌≤◌, Bool, true, false, IsTrue}
+use Rattle.std.specs.Prelude.{◌≡◌, ℕ, ◌≤◌, Bool, true, false, IsTrue}
 use Rattle.brep_desk.specs.Causes.{CountsCall, Rose}
 use Rattle.brep_desk.specs.Shown.{ChannelState, closed, reading, writing, Shown, Tells}
 
@@ -9,9 +9,14 @@ is_end_of_writing closed = false
 is_end_of_writing (reading name) = false
 is_end_of_writing (writing name) = true
 
--- where calls of writing are told, such a call raised their count, or left it at the last number of 64 bits, and any other call kept it
+-- where calls of writing are told, such a call raised their count, or left it at the last number of 64 bits, and any
+-- other call kept it
 abbrev pub CountsWritingCall : Tells → Shown → Shown → Bool → Type 0
 CountsWritingCall t old new counts = CountsCall t.writing_calls old.writing_calls new.writing_calls counts
+
+-- the end of the channel counts as a call of writing where the channel was open for writing
+abbrev pub CountsEndOfWriting : Tells → Shown → Shown → ℕ → Type 0
+CountsEndOfWriting t old new c = CountsWritingCall t old new (is_end_of_writing (old.opened c))
 
 -- the count of calls of writing, where it is told, is as it was
 abbrev pub KeepsWritingCalls : Tells → Shown → Shown → Type 0

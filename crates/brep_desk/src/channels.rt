@@ -1,7 +1,8 @@
 //! Channels of a desk in memory. Their numbers are never used again.
-ghost use Rattle.std.specs.Prelude.{◌≡◌, ◌≢◌, ℕ, List, ◌<◌, ◌≤◌, ◌-◌, ◌^◌, [], ◌∷◌, ◌++◌, length, take, drop, min, IfSome, IfNone, IfOk, IfErr, OnOk, OnErr, IsTrue, ◌↔◌, None, Some};
+ghost use Rattle.std.specs.Prelude.{◌≡◌, ◌≢◌, ℕ, List, ◌<◌, ◌≤◌, ◌-◌, ◌^◌, [], ◌∷◌, ◌++◌, length, take, drop};
+ghost use Rattle.std.specs.Prelude.{min, IfSome, IfNone, IfOk, IfErr, OnOk, OnErr, IsTrue, ◌↔◌, None, Some};
 ghost use Rattle.std.specs.Bool.{OnTrue, OnFalse};
-ghost use Rattle.brep_desk.specs.Shown.{closed, reading, writing, ChangesOnly};
+ghost use Rattle.brep_desk.specs.Shown.{closed, reading, writing, ChangesOnly, TakesOnly};
 ghost use Rattle.brep_desk.specs.Kept.{left_in, state_in, state_of, IsNotReading, IsNotWriting};
 
 use crate::counts::Refusal;
@@ -15,8 +16,8 @@ pub(crate) enum State {
     Writing,
 }
 
-/// A channel over a name. One of reading has a copy of the bytes, so that it needs no file to read from, and keeps it when it
-/// is closed; one of writing has none.
+/// A channel over a name. One of reading has a copy of the bytes, so that it needs no file to read from, and keeps it
+/// when it is closed; one of writing has none.
 #[derive(Drop)]
 pub(crate) struct Channel {
     pub(crate) name: NameText,
@@ -78,7 +79,7 @@ pub(crate) fn read(
     ensures reading { IfSome result (λ n. (name : List ℕ) × (state_in channels.old number ≡ reading name)) }
     ensures opened { state_in channels.new ≡ state_in channels.old }
     ensures count { IfSome result (λ n. n ≡ min (min (length (left_in channels.old number)) (length buf.old)) piece) }
-    ensures left { IfSome result (λ n. ChangesOnly (left_in channels.old) (left_in channels.new) number (drop n (left_in channels.old number))) }
+    ensures left { IfSome result (TakesOnly (left_in channels.old) (left_in channels.new) number) }
     ensures given { IfSome result (λ n. take n buf.new ≡ take n (left_in channels.old number)) }
 {
     let i = number as usize;

@@ -1,7 +1,8 @@
-//! What a desk in memory counts: its calls, its stray calls, its calls of writing, its faults, and the faults for want of memory.
+//! What a desk in memory counts: its calls, its stray calls, its calls of writing, its faults, and the faults for want
+//! of memory.
 ghost use Rattle.std.specs.Prelude.{◌≡◌, ◌≤◌};
 ghost use Rattle.brep_desk.specs.Causes.{raised, Rose};
-ghost use Rattle.brep_desk.specs.Counting.{after_call, short_after};
+ghost use Rattle.brep_desk.specs.Counting.{after_call, with_call, with_refusal};
 
 use crate::desk::Failed;
 
@@ -35,7 +36,7 @@ impl Counts {
         ensures number { result ≡ raised self.old.calls }
         ensures strays { self.new.strays ≡ after_call call.stray self.old.strays }
         ensures writing_calls { self.new.writing_calls ≡ after_call call.writing self.old.writing_calls }
-        ensures counted { self.new ≡ record self.old { calls = raised self.old.calls; strays = self.new.strays; writing_calls = self.new.writing_calls } }
+        ensures counted { self.new ≡ with_call self.old self.new.strays self.new.writing_calls }
         ensures strays_later { self.old.strays ≤ self.new.strays }
         ensures writing_later { self.old.writing_calls ≤ self.new.writing_calls }
         ensures enough { self.new.short ≡ self.old.short }
@@ -52,7 +53,7 @@ impl Counts {
 
     /// Counts a call that is refused.
     pub(crate) fn refuse(&mut self, refusal: Refusal) -> Failed
-        ensures counted { self.new ≡ record self.old { faults = raised self.old.faults; short = short_after refusal self.old.short } }
+        ensures counted { self.new ≡ with_refusal refusal self.old }
         ensures later { self.old.faults ≤ self.new.faults }
         ensures rose { Rose self.old.faults self.new.faults }
         ensures strays { self.new.strays ≡ self.old.strays }

@@ -1,10 +1,10 @@
 //! A desk: named bytes that are read, and names that are written to, over numbered channels.
-ghost use Rattle.std.specs.Prelude.{◌≡◌, ℕ, false, true, take, length, OnErr, IfOk};
+ghost use Rattle.std.specs.Prelude.{◌≡◌, ℕ, false, true, length, OnErr, IfOk};
 ghost use Rattle.brep_desk.specs.Causes.{HasCause};
 ghost use Rattle.brep_desk.specs.Shown.{Shown, Tells, AreTold, Same};
-ghost use Rattle.brep_desk.specs.Calls.{BeginsReading, Reads, BeginsWriting, Writes, Ends};
-ghost use Rattle.brep_desk.specs.Strays.{CountsStrays, is_stray_begin_read, is_stray_read, is_stray_write, is_stray_end};
-ghost use Rattle.brep_desk.specs.WritingCalls.{CountsWritingCall, KeepsWritingCalls, is_end_of_writing};
+ghost use Rattle.brep_desk.specs.Calls.{BeginsReading, ReadsInto, BeginsWriting, Writes, Ends};
+ghost use Rattle.brep_desk.specs.Strays.{CountsStrays, StraysOnBegin, StraysOnRead, StraysOnWrite, StraysOnEnd};
+ghost use Rattle.brep_desk.specs.WritingCalls.{CountsWritingCall, CountsEndOfWriting, KeepsWritingCalls};
 
 /// A call of a desk did not succeed.
 #[derive(Clone, Copy, Debug, PartialEq, Eq)]
@@ -33,16 +33,16 @@ pub trait Desk {
         ensures cause { HasCause (faults self.old) (faults self.new) result }
         ensures begins { IfOk result (λ c. BeginsReading tells (shows self.old) (shows self.new) name.now c.number) }
         ensures unchanged { OnErr result (Same (shows self.old) (shows self.new)) }
-        ensures strays { CountsStrays tells (shows self.old) (shows self.new) (is_stray_begin_read tells ((shows self.old).held name.now)) }
+        ensures strays { StraysOnBegin tells (shows self.old) (shows self.new) name.now }
         ensures writing_calls { KeepsWritingCalls tells (shows self.old) (shows self.new) };
 
     /// Reads the next bytes to the front of `buf`, and answers how many. None, into a buffer with
     /// room, is the end of the input.
     fn read(&mut self, c: Chan, buf: &mut [u8]) -> Result<usize, Failed>
         ensures cause { HasCause (faults self.old) (faults self.new) result }
-        ensures reads { IfOk result (λ n. Reads tells (shows self.old) (shows self.new) c.number (length buf.old) n (take n buf.new)) }
+        ensures reads { IfOk result (ReadsInto tells (shows self.old) (shows self.new) c.number buf.old buf.new) }
         ensures unchanged { OnErr result (Same (shows self.old) (shows self.new)) }
-        ensures strays { CountsStrays tells (shows self.old) (shows self.new) (is_stray_read ((shows self.old).opened c.number) (length buf.old)) }
+        ensures strays { StraysOnRead tells (shows self.old) (shows self.new) c.number (length buf.old) }
         ensures writing_calls { KeepsWritingCalls tells (shows self.old) (shows self.new) };
 
     /// Begins the writing of a name anew: what was written under it before is gone.
@@ -58,7 +58,7 @@ pub trait Desk {
         ensures cause { HasCause (faults self.old) (faults self.new) result }
         ensures writes { IfOk result (λ n. Writes tells (shows self.old) (shows self.new) c.number bytes.now n) }
         ensures unchanged { OnErr result (Same (shows self.old) (shows self.new)) }
-        ensures strays { CountsStrays tells (shows self.old) (shows self.new) (is_stray_write ((shows self.old).opened c.number) (length bytes.now)) }
+        ensures strays { StraysOnWrite tells (shows self.old) (shows self.new) c.number (length bytes.now) }
         ensures writing_calls { CountsWritingCall tells (shows self.old) (shows self.new) true };
 
     /// Closes a channel. Only now is a name that was written whole.
@@ -66,8 +66,8 @@ pub trait Desk {
         ensures cause { HasCause (faults self.old) (faults self.new) result }
         ensures ends { IfOk result (λ _. Ends tells (shows self.old) (shows self.new) c.number) }
         ensures unchanged { OnErr result (Same (shows self.old) (shows self.new)) }
-        ensures strays { CountsStrays tells (shows self.old) (shows self.new) (is_stray_end ((shows self.old).opened c.number)) }
-        ensures writing_calls { CountsWritingCall tells (shows self.old) (shows self.new) (is_end_of_writing ((shows self.old).opened c.number)) };
+        ensures strays { StraysOnEnd tells (shows self.old) (shows self.new) c.number }
+        ensures writing_calls { CountsEndOfWriting tells (shows self.old) (shows self.new) c.number };
 
     /// How often the outside has failed.
     fn faults(&self) -> u64

@@ -1,11 +1,10 @@
 //! The calls of a desk in memory, over the files, the outputs and the channels that it keeps.
-ghost use Rattle.std.specs.Prelude.{◌≡◌, ℕ, List, ◌+◌, ◌≤◌, ◌-◌, ◌^◌, ◌⊎◌, ◌<◌, ◌≢◌, ◌↔◌, length, min, IsTrue, IfOk, IfErr, OnOk, OnErr, IsErrOf, None};
+ghost use Rattle.std.specs.Prelude.{◌≡◌, ◌+◌, ◌≤◌, ◌-◌, ◌^◌, ◌<◌, ◌≢◌, ◌↔◌, length, min, IsTrue};
+ghost use Rattle.std.specs.Prelude.{IfOk, IfErr, OnOk, OnErr, IsErrOf};
 ghost use Rattle.std.specs.Bool.{OnTrue, OnFalse};
-ghost use Rattle.brep_desk.specs.Shown.{tells_all, closed};
-ghost use Rattle.brep_desk.specs.Calls.{BeginsReading, BeginsWriting, Writes, Ends};
-ghost use Rattle.brep_desk.specs.Kept.{held_in, state_in, shown_by, AllBegun, IsNotWriting};
-ghost use Rattle.brep_desk.specs.declared.outputs.Output.{Output};
-ghost use Rattle.brep_desk.specs.declared.counts.Counts.{Counts};
+ghost use Rattle.brep_desk.specs.Shown.{closed};
+ghost use Rattle.brep_desk.specs.Kept.{state_in, AllBegun, IsNotWriting};
+ghost use Rattle.brep_desk.specs.Kept.{OpensInput, OpensOutput, FillsOutput, ClosesChannel, CannotOpenInput};
 ghost use Rattle.brep_desk.specs.declared.channels.State.TheVariants as states;
 
 use crate::channels::{Channel, State, close, is_full, open, written_name};
@@ -42,11 +41,11 @@ pub(crate) fn begin_reading(
     name: &str,
 ) -> Result<u64, Refusal>
     ensures number { IfOk result (λ k. k ≡ length channels.old.items) }
-    ensures begins { IfOk result (λ k. (os : List Output) (before after : Counts) → BeginsReading tells_all (shown_by files.now os channels.old.items before) (shown_by files.now os channels.new.items after) name.now k) }
+    ensures begins { IfOk result (OpensInput files.now channels.old.items channels.new.items name.now) }
     ensures count { OnOk result (length channels.new.items ≡ length channels.old.items + 1) }
     ensures unchanged { OnErr result (channels.new.items ≡ channels.old.items) }
-    ensures fault { IsErrOf result Refusal.Fault → held_in files.now name.now ≡ None ⊎ 2 ^ 64 - 1 ≤ length channels.old.items }
-    ensures due { held_in files.now name.now ≡ None ⊎ 2 ^ 64 - 1 ≤ length channels.old.items → IsErrOf result Refusal.Fault }
+    ensures fault { IsErrOf result Refusal.Fault → CannotOpenInput files.now channels.old.items name.now }
+    ensures due { CannotOpenInput files.now channels.old.items name.now → IsErrOf result Refusal.Fault }
 {
     let bytes = match held(files, name) {
         Some(bytes) => bytes,
@@ -69,7 +68,8 @@ pub(crate) fn begin_writing(
     name: &str,
 ) -> Result<u64, Refusal>
     ensures number { IfOk result (λ k. k ≡ length channels.old.items) }
-    ensures begins { IfOk result (λ k. (fs : List (List ℕ × List ℕ)) (before after : Counts) → BeginsWriting tells_all (shown_by fs outputs.old.items channels.old.items before) (shown_by fs outputs.new.items channels.new.items after) name.now k) }
+    ensures begins { IfOk result (OpensOutput outputs.old.items outputs.new.items
+        channels.old.items channels.new.items name.now) }
     ensures count { OnOk result (length channels.new.items ≡ length channels.old.items + 1) }
     ensures outputs_stay { OnErr result (outputs.new.items ≡ outputs.old.items) }
     ensures channels_stay { OnErr result (channels.new.items ≡ channels.old.items) }
@@ -112,7 +112,7 @@ pub(crate) fn write_over(
     requires begun { AllBegun outputs.old.items channels.now }
     requires some { 0 < piece }
     ensures count { IfOk result (λ n. n ≡ min (length bytes.now) piece) }
-    ensures writes { IfOk result (λ n. (fs : List (List ℕ × List ℕ)) (before after : Counts) → Writes tells_all (shown_by fs outputs.old.items channels.now before) (shown_by fs outputs.new.items channels.now after) number bytes.now n) }
+    ensures writes { IfOk result (FillsOutput outputs.old.items outputs.new.items channels.now number bytes.now) }
     ensures unchanged { OnErr result (outputs.new.items ≡ outputs.old.items) }
     ensures fault { IsErrOf result Refusal.Fault → IsNotWriting (state_in channels.now number) }
     ensures due { IsNotWriting (state_in channels.now number) → IsErrOf result Refusal.Fault }
@@ -131,7 +131,7 @@ pub(crate) fn write_over(
 /// Closes a channel, and marks the output of one of writing as whole. False where it is not open.
 pub(crate) fn end_channel(outputs: &mut Vec<Output>, channels: &mut [Channel], number: u64) -> bool
     requires { AllBegun outputs.old.items channels.old }
-    ensures ends { OnTrue result ((fs : List (List ℕ × List ℕ)) (before after : Counts) → Ends tells_all (shown_by fs outputs.old.items channels.old before) (shown_by fs outputs.new.items channels.new after) number) }
+    ensures ends { OnTrue result (ClosesChannel outputs.old.items outputs.new.items channels.old channels.new number) }
     ensures outputs_stay { OnFalse result (outputs.new.items ≡ outputs.old.items) }
     ensures channels_stay { OnFalse result (channels.new ≡ channels.old) }
     ensures fault { IsTrue result ↔ (state_in channels.old number ≢ closed) }

@@ -83,14 +83,21 @@ impl MemoryDesk {
 }
 
 impl Desk for MemoryDesk {
-    ghost use Rattle.std.specs.Prelude.{◌≡◌, ◌+◌, ◌⊎◌, false, true, take, length, min, OnErr, OnOk, IfOk, IsErr};
+    ghost use Rattle.std.specs.Prelude.{◌≡◌, ◌+◌, ◌⊎◌, false, true, length, min, OnErr, OnOk, IfOk, IsErr};
     ghost use Rattle.brep_desk.specs.Causes.{HasCause};
     ghost use Rattle.brep_desk.specs.Shown.{tells_all, Same};
-    ghost use Rattle.brep_desk.specs.Calls.{BeginsReading, Reads, BeginsWriting, Writes, Ends};
-    ghost use Rattle.brep_desk.specs.Strays.{CountsStrays, is_stray_begin_read, is_stray_read, is_stray_write, is_stray_end};
-    ghost use Rattle.brep_desk.specs.WritingCalls.{CountsWritingCall, KeepsWritingCalls, is_end_of_writing};
-    ghost use Rattle.brep_desk.specs.Counting.{after_call};
-    ghost use Rattle.brep_desk.specs.Memory.{shown_of, faults_of, short_of, channels_of, piece_of, Counted, RanShort, CannotBeginReading, CannotRead, CannotBeginWriting, CannotWrite, CannotEnd};
+    ghost use Rattle.brep_desk.specs.Calls.{Writes, Ends};
+    ghost use Rattle.brep_desk.specs.Strays.{is_stray_begin_read, is_stray_read, is_stray_write, is_stray_end};
+    ghost use Rattle.brep_desk.specs.Strays.{CountsStrays, StraysOnBegin, StraysOnRead, StraysOnWrite};
+    ghost use Rattle.brep_desk.specs.Strays.{StraysOnEnd};
+    ghost use Rattle.brep_desk.specs.WritingCalls.{is_end_of_writing};
+    ghost use Rattle.brep_desk.specs.WritingCalls.{CountsWritingCall, CountsEndOfWriting, KeepsWritingCalls};
+    ghost use Rattle.brep_desk.specs.Memory.{shown_of, held_of, role_of, faults_of, short_of};
+    ghost use Rattle.brep_desk.specs.Memory.{channels_of, moved_by_read, piece_of};
+    ghost use Rattle.brep_desk.specs.Memory.{OpensForReading, FillsBuffer, OpensForWriting};
+    ghost use Rattle.brep_desk.specs.Memory.{OneStray, OneWritingCall, Counted, RanShort};
+    ghost use Rattle.brep_desk.specs.Memory.{CannotBeginReading, CannotRead};
+    ghost use Rattle.brep_desk.specs.Memory.{CannotBeginWriting, CannotWrite, CannotEnd};
 
     ghost faults = { faults_of };
 
@@ -101,12 +108,12 @@ impl Desk for MemoryDesk {
     /// Fails at a name that is not held, and where only the last number is left for a channel.
     fn begin_read(&mut self, name: &str) -> Result<Chan, Failed>
         ensures cause { HasCause (faults_of self.old) (faults_of self.new) result }
-        ensures begins { IfOk result (λ c. BeginsReading tells_all (shown_of self.old) (shown_of self.new) name.now c.number) }
+        ensures begins { IfOk result (OpensForReading self.old self.new name.now) }
         ensures unchanged { OnErr result (Same (shown_of self.old) (shown_of self.new)) }
-        ensures strays { CountsStrays tells_all (shown_of self.old) (shown_of self.new) (is_stray_begin_read tells_all ((shown_of self.old).held name.now)) }
+        ensures strays { StraysOnBegin tells_all (shown_of self.old) (shown_of self.new) name.now }
         ensures writing_calls { KeepsWritingCalls tells_all (shown_of self.old) (shown_of self.new) }
-        ensures one_stray { (shown_of self.new).strays ≡ after_call (is_stray_begin_read tells_all ((shown_of self.old).held name.now)) (shown_of self.old).strays }
-        ensures one_writing_call { (shown_of self.new).writing_calls ≡ after_call false (shown_of self.old).writing_calls }
+        ensures one_stray { OneStray self.old self.new (is_stray_begin_read tells_all (held_of self.old name.now)) }
+        ensures one_writing_call { OneWritingCall self.old self.new false }
         ensures counted { Counted self.old self.new result }
         ensures due { CannotBeginReading self.old name.now → IsErr result × (short_of self.new ≡ short_of self.old) }
         ensures refused { OnErr result (CannotBeginReading self.old name.now ⊎ RanShort self.old self.new) }
@@ -131,16 +138,16 @@ impl Desk for MemoryDesk {
     /// Fails at a channel that is not open for reading.
     fn read(&mut self, c: Chan, buf: &mut [u8]) -> Result<usize, Failed>
         ensures cause { HasCause (faults_of self.old) (faults_of self.new) result }
-        ensures reads { IfOk result (λ n. Reads tells_all (shown_of self.old) (shown_of self.new) c.number (length buf.old) n (take n buf.new)) }
+        ensures reads { IfOk result (FillsBuffer self.old self.new c buf.old buf.new) }
         ensures unchanged { OnErr result (Same (shown_of self.old) (shown_of self.new)) }
-        ensures strays { CountsStrays tells_all (shown_of self.old) (shown_of self.new) (is_stray_read ((shown_of self.old).opened c.number) (length buf.old)) }
+        ensures strays { StraysOnRead tells_all (shown_of self.old) (shown_of self.new) c.number (length buf.old) }
         ensures writing_calls { KeepsWritingCalls tells_all (shown_of self.old) (shown_of self.new) }
-        ensures one_stray { (shown_of self.new).strays ≡ after_call (is_stray_read ((shown_of self.old).opened c.number) (length buf.old)) (shown_of self.old).strays }
-        ensures one_writing_call { (shown_of self.new).writing_calls ≡ after_call false (shown_of self.old).writing_calls }
+        ensures one_stray { OneStray self.old self.new (is_stray_read (role_of self.old c.number) (length buf.old)) }
+        ensures one_writing_call { OneWritingCall self.old self.new false }
         ensures counted { Counted self.old self.new result }
         ensures due { CannotRead self.old c.number → IsErr result }
         ensures refused { OnErr result (CannotRead self.old c.number) }
-        ensures moves { IfOk result (λ n. n ≡ min (min (length ((shown_of self.old).left c.number)) (length buf.old)) (piece_of self.old)) }
+        ensures moves { IfOk result (λ n. n ≡ moved_by_read self.old c.number (length buf.old)) }
         ensures enough { short_of self.new ≡ short_of self.old }
         ensures same_next { channels_of self.new ≡ channels_of self.old }
     {
@@ -161,12 +168,12 @@ impl Desk for MemoryDesk {
     /// Fails where only the last number is left for a channel.
     fn begin_write(&mut self, name: &str) -> Result<Chan, Failed>
         ensures cause { HasCause (faults_of self.old) (faults_of self.new) result }
-        ensures begins { IfOk result (λ c. BeginsWriting tells_all (shown_of self.old) (shown_of self.new) name.now c.number) }
+        ensures begins { IfOk result (OpensForWriting self.old self.new name.now) }
         ensures unchanged { OnErr result (Same (shown_of self.old) (shown_of self.new)) }
         ensures strays { CountsStrays tells_all (shown_of self.old) (shown_of self.new) false }
         ensures writing_calls { CountsWritingCall tells_all (shown_of self.old) (shown_of self.new) true }
-        ensures one_stray { (shown_of self.new).strays ≡ after_call false (shown_of self.old).strays }
-        ensures one_writing_call { (shown_of self.new).writing_calls ≡ after_call true (shown_of self.old).writing_calls }
+        ensures one_stray { OneStray self.old self.new false }
+        ensures one_writing_call { OneWritingCall self.old self.new true }
         ensures counted { Counted self.old self.new result }
         ensures due { CannotBeginWriting self.old → IsErr result × (short_of self.new ≡ short_of self.old) }
         ensures refused { OnErr result (CannotBeginWriting self.old ⊎ RanShort self.old self.new) }
@@ -190,12 +197,12 @@ impl Desk for MemoryDesk {
     /// Fails at a channel that is not open for writing.
     fn write(&mut self, c: Chan, bytes: &[u8]) -> Result<usize, Failed>
         ensures cause { HasCause (faults_of self.old) (faults_of self.new) result }
-        ensures writes { IfOk result (λ n. Writes tells_all (shown_of self.old) (shown_of self.new) c.number bytes.now n) }
+        ensures writes { IfOk result (Writes tells_all (shown_of self.old) (shown_of self.new) c.number bytes.now) }
         ensures unchanged { OnErr result (Same (shown_of self.old) (shown_of self.new)) }
-        ensures strays { CountsStrays tells_all (shown_of self.old) (shown_of self.new) (is_stray_write ((shown_of self.old).opened c.number) (length bytes.now)) }
+        ensures strays { StraysOnWrite tells_all (shown_of self.old) (shown_of self.new) c.number (length bytes.now) }
         ensures writing_calls { CountsWritingCall tells_all (shown_of self.old) (shown_of self.new) true }
-        ensures one_stray { (shown_of self.new).strays ≡ after_call (is_stray_write ((shown_of self.old).opened c.number) (length bytes.now)) (shown_of self.old).strays }
-        ensures one_writing_call { (shown_of self.new).writing_calls ≡ after_call true (shown_of self.old).writing_calls }
+        ensures one_stray { OneStray self.old self.new (is_stray_write (role_of self.old c.number) (length bytes.now)) }
+        ensures one_writing_call { OneWritingCall self.old self.new true }
         ensures counted { Counted self.old self.new result }
         ensures due { CannotWrite self.old c.number → IsErr result × (short_of self.new ≡ short_of self.old) }
         ensures refused { OnErr result (CannotWrite self.old c.number ⊎ RanShort self.old self.new) }
@@ -227,10 +234,10 @@ impl Desk for MemoryDesk {
         ensures cause { HasCause (faults_of self.old) (faults_of self.new) result }
         ensures ends { IfOk result (λ _. Ends tells_all (shown_of self.old) (shown_of self.new) c.number) }
         ensures unchanged { OnErr result (Same (shown_of self.old) (shown_of self.new)) }
-        ensures strays { CountsStrays tells_all (shown_of self.old) (shown_of self.new) (is_stray_end ((shown_of self.old).opened c.number)) }
-        ensures writing_calls { CountsWritingCall tells_all (shown_of self.old) (shown_of self.new) (is_end_of_writing ((shown_of self.old).opened c.number)) }
-        ensures one_stray { (shown_of self.new).strays ≡ after_call (is_stray_end ((shown_of self.old).opened c.number)) (shown_of self.old).strays }
-        ensures one_writing_call { (shown_of self.new).writing_calls ≡ after_call (is_end_of_writing ((shown_of self.old).opened c.number)) (shown_of self.old).writing_calls }
+        ensures strays { StraysOnEnd tells_all (shown_of self.old) (shown_of self.new) c.number }
+        ensures writing_calls { CountsEndOfWriting tells_all (shown_of self.old) (shown_of self.new) c.number }
+        ensures one_stray { OneStray self.old self.new (is_stray_end (role_of self.old c.number)) }
+        ensures one_writing_call { OneWritingCall self.old self.new (is_end_of_writing (role_of self.old c.number)) }
         ensures counted { Counted self.old self.new result }
         ensures due { CannotEnd self.old c.number → IsErr result }
         ensures refused { OnErr result (CannotEnd self.old c.number) }
@@ -254,5 +261,12 @@ impl Desk for MemoryDesk {
         self.counts.faults
     }
 
-    ghost told = { record { held = λ h. h; left = λ h. h; written = λ h. h; ended = λ h. h; strays = λ h. h; writing_calls = λ h. h } };
+    ghost told = { record {
+      held = λ h. h;
+      left = λ h. h;
+      written = λ h. h;
+      ended = λ h. h;
+      strays = λ h. h;
+      writing_calls = λ h. h;
+    } };
 }

@@ -1,7 +1,8 @@
 //! Names with their bytes, kept in memory: those that are held, and those that were written.
-ghost use Rattle.std.specs.Prelude.{◌≡◌, ℕ, List, ◌<◌, [], ◌++◌, length, IfSome, IfNone, OnOk, OnErr, IfOk, unwrap_or, None, Some, true, false};
+ghost use Rattle.std.specs.Prelude.{◌≡◌, ℕ, List, ◌<◌, [], ◌++◌, length, IfSome, IfNone};
+ghost use Rattle.std.specs.Prelude.{OnOk, OnErr, IfOk, unwrap_or, None, Some, true, false};
 ghost use Rattle.brep_desk.specs.Shown.{ChangesOnly};
-ghost use Rattle.brep_desk.specs.Kept.{held_in, written_in, ended_in, Shows, IsPlace, IsBegun};
+ghost use Rattle.brep_desk.specs.Kept.{held_in, written_in, ended_in, Shows, IsPlace, IsBegun, Empties, Appends};
 
 use crate::names::{Bytes, NameText};
 use std::alloc::{AllocError, Global};
@@ -97,7 +98,7 @@ pub(crate) fn restart(
     outputs: &mut Vec<Output>,
     name: &str,
 ) -> Result<(), AllocError>
-    ensures written { OnOk result (ChangesOnly (written_in outputs.old.items) (written_in outputs.new.items) name.now (Some [])) }
+    ensures written { OnOk result (Empties outputs.old.items outputs.new.items name.now) }
     ensures ended { OnOk result (ChangesOnly (ended_in outputs.old.items) (ended_in outputs.new.items) name.now false) }
     ensures err { OnErr result (outputs.new.items ≡ outputs.old.items) }
 {
@@ -128,7 +129,7 @@ pub(crate) fn restart(
 /// Appends bytes to the output with the name.
 pub(crate) fn append(outputs: &mut Vec<Output>, name: &str, bytes: &[u8]) -> Result<(), AllocError>
     requires { IsBegun outputs.old.items name.now }
-    ensures written { OnOk result (ChangesOnly (written_in outputs.old.items) (written_in outputs.new.items) name.now (Some (unwrap_or (written_in outputs.old.items name.now) [] ++ bytes.now))) }
+    ensures written { OnOk result (Appends outputs.old.items outputs.new.items name.now bytes.now) }
     ensures ended { OnOk result (ended_in outputs.new.items ≡ ended_in outputs.old.items) }
     ensures err { OnErr result (outputs.new.items ≡ outputs.old.items) }
 {

@@ -1,4 +1,5 @@
-//! Whether a call of a desk in memory is a stray one, and whether it is one of writing, by the files and channels that it keeps.
+//! Whether a call of a desk in memory is a stray one, and whether it is one of writing, by the files and channels
+//! that it keeps.
 ghost use Rattle.std.specs.Prelude.{◌≡◌, ℕ, List};
 ghost use Rattle.brep_desk.specs.Shown.{tells_all};
 ghost use Rattle.brep_desk.specs.Kept.{held_in, state_in, state_over};

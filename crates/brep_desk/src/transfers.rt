@@ -1,10 +1,11 @@
 //! Whole reads and whole writes over a desk.
-ghost use Rattle.std.specs.Prelude.{◌≡◌, ℕ, List, ◌+◌, ◌<◌, ◌≤◌, ◌^◌, ◌-◌, IsTrue, Some, length, OnErr, OnOk, IfOk, IfErr, IsErrOf, [], ◌≢◌};
+ghost use Rattle.std.specs.Prelude.{◌≡◌, ◌≢◌, ◌+◌, ◌<◌, ◌≤◌, ◌^◌, ◌-◌, [], length, OnErr, OnOk, IfOk, IfErr, IsErrOf};
 ghost use Rattle.brep_desk.specs.Causes.{Rose};
-ghost use Rattle.brep_desk.specs.Shown.{reading, writing};
-ghost use Rattle.brep_desk.specs.Strays.{KeepsStrays, IsHeldIfTold};
+ghost use Rattle.brep_desk.specs.Strays.{NoStrayOnReading, NoStrayOnWriting, NoStrayOnHeld};
 ghost use Rattle.brep_desk.specs.WritingCalls.{KeepsWritingCalls, NoFewerWritingCalls, RoseWritingCalls};
-ghost use Rattle.brep_desk.specs.Transfers.{Appended, NothingWritten, NoMoreOpen, IsLonger, TakesAtMost, TakesOfName};
+ghost use Rattle.brep_desk.specs.Transfers.{AppendedAll, AppendedUpTo, NothingWritten, OpensNone};
+ghost use Rattle.brep_desk.specs.Transfers.{IsAllLeft, IsMoreLeft, IsAllHeld, IsLonger};
+ghost use Rattle.brep_desk.specs.Transfers.{TakesOfChannel, LeavesOthers, TakesOfName};
 
 use crate::desk::{Chan, Desk};
 use std::alloc::Global;
@@ -33,10 +34,10 @@ pub fn write_all<D: Desk>(desk: &mut D, c: Chan, bytes: &[u8]) -> Result<(), Wri
     ensures later { D.faults desk.old ≤ D.faults desk.new }
     ensures cause { OnErr result (Rose (D.faults desk.old) (D.faults desk.new)) }
     ensures no_fault { OnOk result (D.faults desk.new ≡ D.faults desk.old) }
-    ensures whole { OnOk result (Appended D.tells (D.shows desk.old) (D.shows desk.new) c.number bytes.now (length bytes.now)) }
-    ensures part { IfErr result (λ e. Appended D.tells (D.shows desk.old) (D.shows desk.new) c.number bytes.now e.taken) }
+    ensures whole { OnOk result (AppendedAll D.tells (D.shows desk.old) (D.shows desk.new) c.number bytes.now) }
+    ensures part { IfErr result (AppendedUpTo D.tells (D.shows desk.old) (D.shows desk.new) c.number bytes.now) }
     ensures stops_early { IfErr result (λ e. e.taken < length bytes.now) }
-    ensures strays { (name : List ℕ) → (D.shows desk.old).opened c.number ≡ writing name → KeepsStrays D.tells (D.shows desk.old) (D.shows desk.new) }
+    ensures strays { NoStrayOnWriting D.tells (D.shows desk.old) (D.shows desk.new) c.number }
     ensures writing_calls { NoFewerWritingCalls D.tells (D.shows desk.old) (D.shows desk.new) }
     ensures calls { 0 < length bytes.now → RoseWritingCalls D.tells (D.shows desk.old) (D.shows desk.new) }
     ensures no_call { bytes.now ≡ [] → desk.new ≡ desk.old }
@@ -61,14 +62,14 @@ fn read_rest<D: Desk>(alloc: Global, desk: &mut D, c: Chan, limit: u64) -> Resul
     ensures later { D.faults desk.old ≤ D.faults desk.new }
     ensures quiet { NothingWritten D.tells (D.shows desk.old) (D.shows desk.new) }
     ensures opened { (D.shows desk.new).opened ≡ (D.shows desk.old).opened }
-    ensures whole { IfOk result (λ bytes. (length bytes.items ≤ limit) × (IsTrue D.tells.left → (D.shows desk.old).left c.number ≡ bytes.items)) }
+    ensures whole { IfOk result (λ bytes. IsAllLeft D.tells (D.shows desk.old) c.number limit bytes.items) }
     ensures failed { IsErrOf result ReadAll.Failed → Rose (D.faults desk.old) (D.faults desk.new) }
     ensures no_fault { OnOk result (D.faults desk.new ≡ D.faults desk.old) }
     ensures no_fault_else { IfErr result (λ e. e ≢ ReadAll.Failed → D.faults desk.new ≡ D.faults desk.old) }
-    ensures too_long { IsErrOf result ReadAll.TooLong → IsTrue D.tells.left → limit < length ((D.shows desk.old).left c.number) }
-    ensures takes { IsTrue D.tells.left → TakesAtMost (limit + 1) ((D.shows desk.old).left c.number) ((D.shows desk.new).left c.number) }
-    ensures others { IsTrue D.tells.left → (k : ℕ) → k ≢ c.number → (D.shows desk.new).left k ≡ (D.shows desk.old).left k }
-    ensures strays { (name : List ℕ) → (D.shows desk.old).opened c.number ≡ reading name → KeepsStrays D.tells (D.shows desk.old) (D.shows desk.new) }
+    ensures too_long { IsErrOf result ReadAll.TooLong → IsMoreLeft D.tells (D.shows desk.old) c.number limit }
+    ensures takes { TakesOfChannel D.tells (D.shows desk.old) (D.shows desk.new) c.number (limit + 1) }
+    ensures others { LeavesOthers D.tells (D.shows desk.old) (D.shows desk.new) c.number }
+    ensures strays { NoStrayOnReading D.tells (D.shows desk.old) (D.shows desk.new) c.number }
     ensures writing_calls { KeepsWritingCalls D.tells (D.shows desk.old) (D.shows desk.new) }
 {
     let mut bytes = Vec::new(alloc);
@@ -99,14 +100,14 @@ pub fn read_all<D: Desk>(
     requires { limit < 2 ^ 64 - 1 }
     ensures later { D.faults desk.old ≤ D.faults desk.new }
     ensures quiet { NothingWritten D.tells (D.shows desk.old) (D.shows desk.new) }
-    ensures whole { IfOk result (λ bytes. (length bytes.items ≤ limit) × (IsTrue D.tells.held → (D.shows desk.old).held name.now ≡ Some bytes.items)) }
+    ensures whole { IfOk result (λ bytes. IsAllHeld D.tells (D.shows desk.old) name.now limit bytes.items) }
     ensures failed { IsErrOf result ReadAll.Failed → Rose (D.faults desk.old) (D.faults desk.new) }
     ensures no_fault { OnOk result (D.faults desk.new ≡ D.faults desk.old) }
     ensures no_fault_else { IfErr result (λ e. e ≢ ReadAll.Failed → D.faults desk.new ≡ D.faults desk.old) }
     ensures too_long { IsErrOf result ReadAll.TooLong → IsLonger D.tells (D.shows desk.old) name.now limit }
-    ensures closes { OnOk result (IsTrue D.tells.opened → NoMoreOpen (D.shows desk.old) (D.shows desk.new)) }
-    ensures closes_too_long { IsErrOf result ReadAll.TooLong → IsTrue D.tells.opened → NoMoreOpen (D.shows desk.old) (D.shows desk.new) }
-    ensures strays { IsHeldIfTold D.tells (D.shows desk.old) name.now → KeepsStrays D.tells (D.shows desk.old) (D.shows desk.new) }
+    ensures closes { OnOk result (OpensNone D.tells (D.shows desk.old) (D.shows desk.new)) }
+    ensures closes_too_long { IsErrOf result ReadAll.TooLong → OpensNone D.tells (D.shows desk.old) (D.shows desk.new) }
+    ensures strays { NoStrayOnHeld D.tells (D.shows desk.old) (D.shows desk.new) name.now }
     ensures writing_calls { KeepsWritingCalls D.tells (D.shows desk.old) (D.shows desk.new) }
     ensures takes { TakesOfName D.tells (D.shows desk.old) (D.shows desk.new) name.now (limit + 1) }
 {

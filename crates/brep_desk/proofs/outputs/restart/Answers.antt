@@ -4,13 +4,22 @@ use Rattle.brep_desk.proofs.OutputLists.{of_output-changed, of_output-pushed}
 use Rattle.brep_desk.proofs.outputs.restart.Goals as goal
 
 pub returns-in-Some-clause-written : goal.returns-in-Some-clause-written
-returns-in-Some-clause-written c = of_output-changed bytes_of None _ _ _ _ _ _ (rw c.deref.ensures.value at c.in-Some.ensures.some.1) c.index_mut-output.ensures.value refl (ap Some c.clear.ensures)
+returns-in-Some-clause-written c =
+    of_output-changed bytes_of None _ _ _ _ _ _ (rw c.deref.ensures.value at c.in-Some.ensures.some.1)
+    c.index_mut-output.ensures.value refl (ap Some c.clear.ensures)
 
 pub returns-in-Some-clause-ended : goal.returns-in-Some-clause-ended
-returns-in-Some-clause-ended c = of_output-changed is_ended false _ _ _ _ _ _ (rw c.deref.ensures.value at c.in-Some.ensures.some.1) c.index_mut-output.ensures.value refl refl
+returns-in-Some-clause-ended c =
+    of_output-changed is_ended false _ _ _ _ _ _ (rw c.deref.ensures.value at c.in-Some.ensures.some.1)
+    c.index_mut-output.ensures.value refl refl
 
 pub returns-in-Ok-push-clause-written : goal.returns-in-Ok-push-clause-written
-returns-in-Ok-push-clause-written c = of_output-pushed bytes_of None _ _ _ _ _ c.in-Ok-push.ensures.items (rw c.deref.ensures.value at c.in-None.ensures.none) c.in-Ok.ensures (ap Some (c.of.ensures ∙ c.new.ensures.items))
+returns-in-Ok-push-clause-written c =
+    of_output-pushed bytes_of None _ _ _ _ _ c.in-Ok-push.ensures.items
+    (rw c.deref.ensures.value at c.in-None.ensures.none) c.in-Ok.ensures
+    (ap Some (c.of.ensures ∙ c.new.ensures.items))
 
 pub returns-in-Ok-push-clause-ended : goal.returns-in-Ok-push-clause-ended
-returns-in-Ok-push-clause-ended c = of_output-pushed is_ended false _ _ _ _ _ c.in-Ok-push.ensures.items (rw c.deref.ensures.value at c.in-None.ensures.none) c.in-Ok.ensures refl
+returns-in-Ok-push-clause-ended c =
+    of_output-pushed is_ended false _ _ _ _ _ c.in-Ok-push.ensures.items
+    (rw c.deref.ensures.value at c.in-None.ensures.none) c.in-Ok.ensures refl

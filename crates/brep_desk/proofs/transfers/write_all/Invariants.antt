@@ -9,7 +9,8 @@ abbrev pub invariant-loop-taken : goal.invariant-loop-taken
 invariant-loop-taken g l = record {
   no_fault : g.D.Desk.faults l.desk ≡ g.D.Desk.faults l.initial.desk;
   so_far : Appended g.D.Desk.tells (g.D.Desk.shows l.initial.desk) (g.D.Desk.shows l.desk) l.c.number l.bytes l.taken;
-  strays : (name : List ℕ) → (g.D.Desk.shows l.initial.desk).opened l.c.number ≡ writing name → KeepsStrays g.D.Desk.tells (g.D.Desk.shows l.initial.desk) (g.D.Desk.shows l.desk);
+  strays : (name : List ℕ) → (g.D.Desk.shows l.initial.desk).opened l.c.number ≡ writing name
+      → KeepsStrays g.D.Desk.tells (g.D.Desk.shows l.initial.desk) (g.D.Desk.shows l.desk);
   writing_calls : NoFewerWritingCalls g.D.Desk.tells (g.D.Desk.shows l.initial.desk) (g.D.Desk.shows l.desk);
   calls : 0 < l.taken → RoseWritingCalls g.D.Desk.tells (g.D.Desk.shows l.initial.desk) (g.D.Desk.shows l.desk);
   no_call : l.taken ≡ 0 → l.desk ≡ l.initial.desk;

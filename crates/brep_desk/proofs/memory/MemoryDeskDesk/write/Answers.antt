@@ -5,11 +5,15 @@ use Rattle.brep_desk.proofs.Files.{is_to_fail, is_not_to_fail}
 use Rattle.brep_desk.proofs.memory.MemoryDeskDesk.write.Goals as goal
 
 pub returns-then-contains-clause-refused : goal.returns-then-contains-clause-refused
-returns-then-contains-clause-refused c = inl (inl (is_to_fail _ _ _ _ _ c.deref-2.ensures.value c.next_call-call.ensures.number c.contains.ensures.value c.if-contains.true))
+returns-then-contains-clause-refused c =
+    inl (inl (is_to_fail _ _ _ _ _ c.deref-2.ensures.value c.next_call-call.ensures.number c.contains.ensures.value
+    c.if-contains.true))
 
 pub invariant_of-self-in-Ok-1 : goal.invariant_of-self-in-Ok-1
 invariant_of-self-in-Ok-1 c =
-    let writes = rw c.deref-3.ensures.value at (c.in-Ok.ensures.writes c.args.self.now.files.items c.args.self.now.counts c.args.self.now.counts) in
+    let writes =
+    rw c.deref-3.ensures.value at (c.in-Ok.ensures.writes c.args.self.now.files.items c.args.self.now.counts
+    c.args.self.now.counts) in
     let is_open = writes.is_open refl in
     record {
       begun = AllBegun-written _ _ _ _ _ (writes.written refl is_open.0 is_open.1) c.args.self.now.begun;
@@ -17,13 +21,18 @@ invariant_of-self-in-Ok-1 c =
     }
 
 pub returns-in-Ok-clause-writes : goal.returns-in-Ok-clause-writes
-returns-in-Ok-clause-writes c = rw c.deref-3.ensures.value at (c.in-Ok.ensures.writes c.args.self.now.files.items c.args.self.now.counts c.next_call-call.new.self)
+returns-in-Ok-clause-writes c =
+    rw c.deref-3.ensures.value at (c.in-Ok.ensures.writes c.args.self.now.files.items c.args.self.now.counts
+    c.next_call-call.new.self)
 
 pub returns-in-Err-clause-due : goal.returns-in-Err-clause-due
 returns-in-Err-clause-due c cause = (
   refl,
   elim cause [
-    | inl fails ↦ is_not_to_fail _ _ _ _ _ c.deref-2.ensures.value c.next_call-call.ensures.number c.contains.ensures.value c.if-contains.false fails
-    | inr other ↦ c.refuse-in-Err.ensures.enough (refusal_is _ _ _ c.in-Err.is (c.write_over.ensures.due (rw (← c.deref-3.ensures.value) at other))) ∙ c.next_call-call.ensures.enough
+    | inl fails ↦ is_not_to_fail _ _ _ _ _ c.deref-2.ensures.value c.next_call-call.ensures.number
+        c.contains.ensures.value c.if-contains.false fails
+    | inr other ↦ c.refuse-in-Err.ensures.enough
+        (refusal_is _ _ _ c.in-Err.is (c.write_over.ensures.due (rw (← c.deref-3.ensures.value) at other)))
+        ∙ c.next_call-call.ensures.enough
   ],
 )
