@@ -1,10 +1,10 @@
 -- The graph of a step: which trees the rewriting of a tree can lead to.
-use Rattle.std.specs.Prelude.{◌≡◌, ◌≢◌, ◌⊎◌, ℕ, ◌<◌, Bool, if◌then◌else◌, List, [], ◌∷◌, ◌++◌, map, All}
+use Rattle.std.specs.Prelude.{◌≡◌, ◌≢◌, ◌⊎◌, ℕ, ◌<◌, Bool, true, if◌then◌else◌, List, [], ◌∷◌, ◌++◌, map, All, Contains}
 use Rattle.std.specs.List.{flat_map, list_any}
 use Rattle.orientation.specs.declared.kind.Kind.{Kind}
 use Rattle.orientation.specs.Kinds.{kind_eq, rank_of}
 use Rattle.graph_walks.specs.Walks.{Reaches as WalksReach, HasCycle as WalksHaveCycle, IsRank as IsRankOfWalks}
-use Rattle.graph_walks.specs.Walks.{IsFirstCycle as IsFirstCycleOfWalks, StandsFor, Carries}
+use Rattle.graph_walks.specs.Walks.{IsFirstCycle as IsFirstCycleOfWalks, IsFinishOrder, StandsFor, Carries}
 use Rattle.expansion_laws.specs.Trees.{Tree, Use, uses}
 use Rattle.expansion_laws.specs.Requests.{Act, remove, replace, requests_for, live_requests, is_unconditional}
 use Rattle.expansion_laws.specs.Steps.{Step, kind, entered}
@@ -45,6 +45,22 @@ IsFirstCycle s = IsFirstCycleOfWalks (edges s)
 abbrev pub NumbersCarry : Step → Type 0
 NumbersCarry s = (tree : ℕ → Tree) (ends : ℕ → List ℕ) (is_held : ℕ → Bool) →
     StandsFor tree ends (edges s) is_held → Carries tree ends (edges s) is_held
+
+-- different held numbers stand for different trees
+abbrev pub TellsTrees : (ℕ → Tree) → (ℕ → Bool) → Type 0
+TellsTrees tree is_held =
+    (i j : ℕ) → is_held i ≡ true → is_held j ≡ true → tree i ≡ tree j → i ≡ j
+
+-- where they do, the first cycle and each order of finishing stand for those among trees as well
+pub record CarriesSearches (s : Step) (tree : ℕ → Tree) (ends : ℕ → List ℕ) (is_held : ℕ → Bool) : Type 0 where
+  pub first_cycle : (root : ℕ) (walk : List ℕ) → is_held root ≡ true →
+      IsFirstCycleOfWalks ends root walk → IsFirstCycle s (tree root) (map tree walk)
+  pub finish_order : (order : List ℕ) → ((i : ℕ) → Contains order i → is_held i ≡ true) →
+      IsFinishOrder ends order → IsFinishOrder (edges s) (map tree order)
+
+abbrev pub NumbersCarrySearches : Step → Type 0
+NumbersCarrySearches s = (tree : ℕ → Tree) (ends : ℕ → List ℕ) (is_held : ℕ → Bool) →
+    StandsFor tree ends (edges s) is_held → TellsTrees tree is_held → CarriesSearches s tree ends is_held
 
 -- a target fits a source of equal kind, or has a higher kind, a use, and only uses of the source's kind
 abbrev pub FitsBy : (Tree → Kind) → Tree → Tree → Type 0

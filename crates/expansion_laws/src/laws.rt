@@ -11,7 +11,7 @@ ghost use Rattle.expansion_laws.specs.UsualRule.{UsualRuleGoesThroughAll};
 ghost use Rattle.expansion_laws.specs.MeasureExamples.{MeasuresComeOut};
 ghost use Rattle.expansion_laws.specs.SlowMeasures.{MeasuresByLists, HeldTreesByLists, MeasuresAreDetermined};
 ghost use Rattle.expansion_laws.specs.Ends.{EqualEndsTell, EndsComeOut};
-ghost use Rattle.expansion_laws.specs.Graph.{edges, NumbersCarry};
+ghost use Rattle.expansion_laws.specs.Graph.{edges, NumbersCarry, NumbersCarrySearches};
 ghost use Rattle.expansion_laws.specs.WholeVisits.{WholeListsHoldAll};
 ghost use Rattle.expansion_laws.specs.Keeping.{ResultsHaveTheKind, Passes, WhatIsKeptIsKept};
 ghost use Rattle.expansion_laws.specs.Keeping.{OriginsStay, KindsStayInOrder, WordsStay};
@@ -183,9 +183,11 @@ pub fn whole_lists_hold_all()
     words_are_a_group();
 }
 
-/// Reach and ranks among numbers that stand for trees are those among the trees.
+/// Reach and ranks among numbers that stand for trees are those among the trees, and so are first cycles and orders of finishing
+/// where the numbers tell the trees apart.
 pub fn numbers_carry()
-    ensures { (s : Step) → NumbersCarry s }
+    ensures reach { (s : Step) → NumbersCarry s }
+    ensures searches { (s : Step) → NumbersCarrySearches s }
 {}
 
 /// A tree with a rank has one key at each context.

@@ -9,7 +9,7 @@ use Rattle.std.proofs.lemmas.List.{take_more, get_or-set_same, get_or-set_other}
 use Rattle.std.proofs.lemmas.List.Elements.{Contains-append_left, Contains-append_right}
 use Rattle.std.proofs.lemmas.List.Elements.{All-set, All-contains, Contains-push_cases}
 use Rattle.lists.proofs.Members.{Contains-cases, Contains-first, Contains-here}
-use Rattle.lists.proofs.Members.{Contains-none, Contains-reversed, Contains-there}
+use Rattle.lists.proofs.Members.{Contains-none, Contains-reverse, Contains-reversed, Contains-there}
 use Rattle.lists.proofs.Cases.{same_or_not}
 
 pub by_order : {P : Type 0} (m n : ℕ) → (m ≤ n → P) → (n ≤ m → P) → P
@@ -61,20 +61,28 @@ module _ {X : Type 0} (edges : X → List X) where
   finish-later [] b o = o
   finish-later (x ∷ a) b o = finish-later a b o.2
 
-  pub ends-before : (order : List X) (k : ℕ) (d : X) → IsFinishOrder edges (reverse order) → k < length order →
-      (y : X) →
-      Contains (edges (slice_index_or order k d)) y → Contains (take k order) y
-  ends-before order k d o lt y m =
+  -- a thing of the order, after the ones before it
+  finish-at : (order : List X) (k : ℕ) (d : X) → IsFinishOrder edges (reverse order) → k < length order →
+      IsFinishOrder edges (slice_index_or order k d ∷ reverse (take k order))
+  finish-at order k d o lt =
       let x : X = slice_index_or order k d in
       let parts : order ≡ take k order ++ x ∷ drop (k + 1) order = sym (take-append-drop k order) ∙
       ap (λ l. take k order ++ l) (drop_more order k d lt) in
       let turned : reverse order ≡ reverse (drop (k + 1) order) ++ x ∷ [] ++ reverse (take k order) = ap reverse parts ∙
       reverse-append (take k order) (x ∷ drop (k + 1) order) ∙
       ap (λ l. l ++ reverse (take k order)) (reverse-append (x ∷ []) (drop (k + 1) order)) in
-      let last = finish-later (reverse (drop (k + 1) order)) (x ∷ reverse (take k order))
-      (subst (IsFinishOrder edges) (turned ∙ push-through (reverse (drop (k + 1) order)) x (reverse (take k order)))
-      o) in
-      Contains-reversed y (take k order) (last.0 y m)
+      finish-later (reverse (drop (k + 1) order)) (x ∷ reverse (take k order))
+      (subst (IsFinishOrder edges) (turned ∙ push-through (reverse (drop (k + 1) order)) x (reverse (take k order))) o)
+
+  pub ends-before : (order : List X) (k : ℕ) (d : X) → IsFinishOrder edges (reverse order) → k < length order → (y : X) →
+      Contains (edges (slice_index_or order k d)) y → Contains (take k order) y
+  ends-before order k d o lt y m = Contains-reversed y (take k order) ((finish-at order k d o lt).0 y m)
+
+  -- and not that thing itself
+  pub once-before : (order : List X) (k : ℕ) (d : X) → IsFinishOrder edges (reverse order) → k < length order →
+      Contains (take k order) (slice_index_or order k d) → ⊥
+  once-before order k d o lt m =
+      (finish-at order k d o lt).1 (Contains-reverse (slice_index_or order k d) (take k order) m)
 
 -- ranks by a list
 rank-more : (rank : ℕ → ℕ) (ys : List ℕ) (y : ℕ) →

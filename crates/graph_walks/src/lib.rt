@@ -4,8 +4,10 @@
 mod depth_first;
 mod graph;
 pub mod laws;
+mod marking;
 mod ranking;
 
 pub use depth_first::{Found, has_cycle, search};
 pub use graph::Graph;
+pub use marking::mark_reaching;
 pub use ranking::ranks;
