@@ -1,0 +1,4 @@
+pub mod Shapes
+pub mod Maps
+pub mod Refusals
+pub mod Numbered

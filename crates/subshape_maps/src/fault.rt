@@ -1,0 +1,33 @@
+//! Limits of maps of shapes, and why a map is refused.
+ghost use Rattle.std.specs.Prelude.{Option};
+ghost use Rattle.location_words.specs.declared.fault.WordFault.{WordFault};
+ghost use Rattle.location_words.specs.Faults.{IsDueFault};
+ghost use Rattle.subshape_maps.specs.Refusals.{IsDueWord};
+
+use location_words::WordFault;
+
+/// The greatest number of shapes of any kind that a map meets.
+pub const MOST_SHAPES: usize = 1_048_576;
+
+/// Why a map of shapes is refused.
+#[derive(Clone, Copy, Debug, PartialEq, Eq)]
+pub enum MapFault {
+    /// An accumulated word is past the limits of words, by its pairs or by a power.
+    Word(WordFault),
+    /// More than 1,048,576 shapes of any kind are met: one more than that.
+    Keys(u64),
+    /// More than 16,777,216 pairs of a low shape and a high one above it: one more than that.
+    Pairs(u64),
+    /// Want of memory.
+    NoMemory,
+}
+
+/// Why a map is refused where a word is.
+pub(crate) fn of_word(fault: WordFault) -> MapFault
+    ensures { (due : Option WordFault) → IsDueFault due fault → IsDueWord due result }
+{
+    match fault {
+        WordFault::NoMemory => MapFault::NoMemory,
+        past => MapFault::Word(past),
+    }
+}

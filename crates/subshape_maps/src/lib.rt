@@ -1,0 +1,13 @@
+//! The shapes of a tree's expansion: each tree under each accumulated word once, and which shapes stand above which.
+#![tactic(auto)]
+
+mod fault;
+mod joining;
+mod listing;
+mod meeting;
+mod noting;
+mod shape;
+
+pub use fault::{MOST_SHAPES, MapFault};
+pub use listing::map_shapes;
+pub use shape::{ShapeAt, ShapeMap};
