@@ -6,7 +6,8 @@ use Rattle.shape_pool.specs.Rows.{Row, kind_at}
 use Rattle.shape_pool.specs.Laws.{ids_used}
 use Rattle.requests.specs.Numbered.{FitsAt}
 
-pub fit-is : (rows : List Row) (i j : ℕ) (b : Bool) → rank_of (kind_at rows i) < rank_of (kind_at rows j) → 0 < length (ids_used rows j) →
+pub fit-is : (rows : List Row) (i j : ℕ) (b : Bool) → rank_of (kind_at rows i) < rank_of (kind_at rows j) →
+    0 < length (ids_used rows j) →
     (IsTrue b ↔ All (λ k. kind_at rows k ≡ kind_at rows i) (ids_used rows j)) → IsTrue b ↔ FitsAt rows i j
 fit-is rows i j b higher some of = (
   λ t. inr (higher, some, of.0 t),

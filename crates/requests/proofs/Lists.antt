@@ -1,5 +1,7 @@
 -- What is read of lists by place.
-use Rattle.std.proofs.Common.{◌≡◌, ◌≢◌, ◌≤◌, ◌<◌, ◌+◌, ◌⊎◌, ℕ, zero, suc, Bool, true, false, List, map, ◌++◌, ◌∷◌, [], All, Contains, length, take, set, arith, sym, ◌∙◌, ap, subst, refl, slice_get, slice_index_or, Option, Some, None, inl, inr}
+use Rattle.std.proofs.Common.{◌≡◌, ◌≢◌, ◌≤◌, ◌<◌, ◌+◌, ◌⊎◌, ℕ, zero, suc, Bool, true, false, List, map}
+use Rattle.std.proofs.Common.{◌++◌, ◌∷◌, [], All, Contains, length, take, set, arith, sym, ◌∙◌, ap}
+use Rattle.std.proofs.Common.{subst, refl, slice_get, slice_index_or, Option, Some, None, inl, inr}
 use Rattle.std.specs.Prelude.{unwrap_or}
 use Rattle.std.proofs.lemmas.Option.{slice_get_within, slice_get_past, slice_get-get_or}
 
@@ -11,7 +13,8 @@ by_test false f g = g refl
 pub same_entry : {X : Type 0} {x y : X} {o : Option X} → o ≡ Some x → o ≡ Some y → x ≡ y
 same_entry {x = x} e f = ap (λ o. unwrap_or o x) (sym e ∙ f)
 
-pub slice_get-mapped : {X Y : Type 0} (f : X → Y) (xs : List X) (i : ℕ) (x : X) → slice_get xs i ≡ Some x → slice_get (map f xs) i ≡ Some (f x)
+pub slice_get-mapped : {X Y : Type 0} (f : X → Y) (xs : List X) (i : ℕ) (x : X) → slice_get xs i ≡ Some x →
+    slice_get (map f xs) i ≡ Some (f x)
 slice_get-mapped f [] i x e = absurd cc
 slice_get-mapped f (y ∷ xs) zero x e = ap Some (ap f (ap (λ o. unwrap_or o y) e))
 slice_get-mapped f (y ∷ xs) (suc i) x e = slice_get-mapped f xs i x e
@@ -26,7 +29,8 @@ slice_get-set [] i a h = absurd (omega arith)
 slice_get-set (x ∷ xs) zero a h = refl
 slice_get-set (x ∷ xs) (suc i) a h = slice_get-set xs i a (omega arith)
 
-pub slice_get-set-other : {X : Type 0} (xs : List X) (i j : ℕ) (a : X) → i ≢ j → slice_get (set xs i a) j ≡ slice_get xs j
+pub slice_get-set-other : {X : Type 0} (xs : List X) (i j : ℕ) (a : X) → i ≢ j →
+    slice_get (set xs i a) j ≡ slice_get xs j
 slice_get-set-other [] i j a n = refl
 slice_get-set-other (x ∷ xs) zero zero a n = absurd (n refl)
 slice_get-set-other (x ∷ xs) zero (suc j) a n = refl
@@ -52,10 +56,13 @@ All-place P (y ∷ xs) (suc i) x h e = All-place P xs i x (All-rest P y xs h) e
 add-one : (i : ℕ) → suc i ≡ i + 1
 add-one i = omega arith
 
-more : {X : Type 0} (P : X → Type 0) (xs : List X) (i : ℕ) (x : X) → All P (take i xs) → slice_get xs i ≡ Some x → P x → All P (take (suc i) xs)
+more : {X : Type 0} (P : X → Type 0) (xs : List X) (i : ℕ) (x : X) → All P (take i xs) → slice_get xs i ≡ Some x → P x →
+    All P (take (suc i) xs)
 more P [] i x h e p = absurd cc
 more P (y ∷ xs) zero x h e p = All-from P y [] (subst P (sym (ap (λ o. unwrap_or o y) e)) p) (All-none P)
-more P (y ∷ xs) (suc i) x h e p = All-from P y (take (suc i) xs) (h zero y (omega arith)) (more P xs i x (All-rest P y (take i xs) h) e p)
+more P (y ∷ xs) (suc i) x h e p =
+    All-from P y (take (suc i) xs) (h zero y (omega arith)) (more P xs i x (All-rest P y (take i xs) h) e p)
 
-pub All-more : {X : Type 0} (P : X → Type 0) (xs : List X) (i : ℕ) (x : X) → All P (take i xs) → slice_get xs i ≡ Some x → P x → All P (take (i + 1) xs)
+pub All-more : {X : Type 0} (P : X → Type 0) (xs : List X) (i : ℕ) (x : X) → All P (take i xs) →
+    slice_get xs i ≡ Some x → P x → All P (take (i + 1) xs)
 All-more P xs i x h e p = subst (λ (n : ℕ). All P (take n xs)) (add-one i) (more P xs i x h e p)

@@ -12,5 +12,6 @@ pub stands-for-step : (rows : List Row) (t : Table) → IsSound rows → TreesAr
 stands-for-step rows t sound told words = record {
   live = λ kind word n i reading all h. live-are rows word sound kind n t told reading i h all;
   edges_are = λ kind word n i reading all h. edges-are rows word sound kind n t told reading i h all;
-  match = λ kind word n i w turn reading all h k. match-are rows word sound kind n t told words reading i w turn h k all;
+  match =
+      λ kind word n i w turn reading all h k. match-are rows word sound kind n t told words reading i w turn h k all;
 }

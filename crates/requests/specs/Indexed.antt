@@ -1,9 +1,9 @@
 -- How a table finds the live requests of a number: by its place among the sources.
-use Rattle.std.specs.Prelude.{◌≡◌, ℕ, ◌≤◌, nat_eq, List, [], length, Option, Some, None, slice_get, Vec}
+use Rattle.std.specs.Prelude.{◌≡◌, ◌≢◌, ℕ, ◌≤◌, nat_eq, List, [], length, Option, Some, None, slice_get, Vec}
 use Rattle.std.specs.List.{position_or_len}
 use Rattle.std.specs.Global.{Global}
 use Rattle.requests.specs.declared.request.Request.{Request}
-use Rattle.requests.specs.Numbered.{live_at}
+use Rattle.requests.specs.Numbered.{live_at, with_live}
 
 -- the list at a place, and none where there is no such place
 abbrev pub items_of : Option (Vec Request Global) → List Request
@@ -19,6 +19,18 @@ place_of sources i = position_or_len (nat_eq i) sources
 
 abbrev pub listed_at : List ℕ → List (Vec Request Global) → ℕ → List Request
 listed_at sources live i = list_at live (place_of sources i)
+
+-- each number has the same live requests as before; each other number has; and this one has one more
+abbrev pub ListsAlike : List ℕ → List (Vec Request Global) → List ℕ → List (Vec Request Global) → Type 0
+ListsAlike sources live sources' live' = (i : ℕ) → listed_at sources' live' i ≡ listed_at sources live i
+
+abbrev pub ListsOthersAlike : ℕ → List ℕ → List (Vec Request Global) → List ℕ → List (Vec Request Global) → Type 0
+ListsOthersAlike source sources live sources' live' =
+    (i : ℕ) → i ≢ source → listed_at sources' live' i ≡ listed_at sources live i
+
+abbrev pub ListsToo : Request → List ℕ → List (Vec Request Global) → List ℕ → List (Vec Request Global) → Type 0
+ListsToo r sources live sources' live' =
+    listed_at sources' live' r.source.0 ≡ with_live (listed_at sources live r.source.0) r
 
 -- there is a list for each source, and those beyond are empty
 pub record IsSpared (sources : List ℕ) (live : List (Vec Request Global)) : Type 0 where

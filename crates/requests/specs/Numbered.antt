@@ -1,5 +1,6 @@
 -- Requests by numbers: of the nodes of a pool and of words.
-use Rattle.std.specs.Prelude.{◌≡◌, ℕ, ◌<◌, ◌⊎◌, ◌&&◌, Bool, if◌then◌else◌, nat_eq, is_none, List, [], ◌∷◌, ◌++◌, All, filter, length, true, Option, None, Some}
+use Rattle.std.specs.Prelude.{◌≡◌, ℕ, ◌<◌, ◌⊎◌, ◌&&◌, Bool, if◌then◌else◌, nat_eq, is_none, List}
+use Rattle.std.specs.Prelude.{[], ◌∷◌, ◌++◌, All, filter, length, true, Option, None, Some}
 use Rattle.std.specs.List.{last_or, list_any}
 use Rattle.orientation.specs.declared.turn.Turn.{Turn}
 use Rattle.location_words.specs.declared.table.WordId.{WordId}
@@ -45,7 +46,8 @@ allows_place (Some place) w = nat_eq place.0 w
 abbrev pub allows_at : Turn → ℕ → Request → Bool
 allows_at t w r = allows_place r.place w && allows_turn r.turn t
 
--- the last of them that allows a turn and a word, and the match of a number under these: the last of all its requests that does
+-- the last of them that allows a turn and a word, and the match of a number under these: the last of all its requests
+-- that does
 abbrev pub last_allowed : List Request → Turn → ℕ → Option Request
 last_allowed rs t w = last_or None (filter (allows_at t w) rs)
 

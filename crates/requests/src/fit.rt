@@ -30,7 +30,8 @@ fn is_higher(low: Kind, high: Kind) -> bool
     (low as u8) < (high as u8)
 }
 
-/// Whether a target fits a source: it has its kind, or a higher kind, at least one use, and uses of the source's kind alone.
+/// Whether a target fits a source: it has its kind, or a higher kind, at least one use, and uses of the source's kind
+/// alone.
 pub(crate) fn fits(pool: &Pool, source: NodeId, target: NodeId) -> bool
     requires source { source.0 < length pool.now }
     requires target { target.0 < length pool.now }

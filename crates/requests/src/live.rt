@@ -1,7 +1,7 @@
 //! The live requests of each node, found by its number.
-ghost use Rattle.std.specs.Prelude.{◌≡◌, ◌≢◌, ◌<◌, ◌≤◌, IfOk, OnOk, OnErr, ℕ, length};
+ghost use Rattle.std.specs.Prelude.{◌≡◌, ◌<◌, ◌≤◌, OnOk, OnErr, ℕ, length};
 ghost use Rattle.requests.specs.Numbered.{last_allowed, with_live};
-ghost use Rattle.requests.specs.Indexed.{list_at, listed_at, IsSpared};
+ghost use Rattle.requests.specs.Indexed.{list_at, listed_at, IsSpared, ListsAlike, ListsOthersAlike, ListsToo};
 
 use crate::request::Request;
 use indexmap::IndexSet;
@@ -44,9 +44,9 @@ pub(crate) fn note(
 ) -> Result<(), AllocError>
     requires spared { IsSpared sources.old.keys live.old.items }
     ensures spared { IsSpared sources.new.keys live.new.items }
-    ensures source { OnOk result (listed_at sources.new.keys live.new.items r.source.0 ≡ with_live (listed_at sources.old.keys live.old.items r.source.0) r) }
-    ensures others { (i : ℕ) → i ≢ r.source.0 → listed_at sources.new.keys live.new.items i ≡ listed_at sources.old.keys live.old.items i }
-    ensures err { OnErr result ((i : ℕ) → listed_at sources.new.keys live.new.items i ≡ listed_at sources.old.keys live.old.items i) }
+    ensures source { OnOk result (ListsToo r sources.old.keys live.old.items sources.new.keys live.new.items) }
+    ensures others { ListsOthersAlike r.source.0 sources.old.keys live.old.items sources.new.keys live.new.items }
+    ensures err { OnErr result (ListsAlike sources.old.keys live.old.items sources.new.keys live.new.items) }
 {
     make_room(live, sources.len())?;
     let (place, _) = sources.insert_full(r.source.0)?;

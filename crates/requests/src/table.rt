@@ -98,14 +98,16 @@ impl RequestTable {
         live_of(&self.sources, self.live.as_slice(), id.0)
     }
 
-    /// The match of a node's occurrences under a turn and the number of a word: the last request for the node that allows them.
+    /// The match of a node's occurrences under a turn and the number of a word: the last request for the node that
+    /// allows them.
     pub fn find(&self, id: NodeId, turn: Turn, word: WordId) -> Option<Request>
         ensures { result ≡ match_at self.now.requests id.0 turn word.0 }
     {
         last_allowing(self.live(id), turn, word)
     }
 
-    /// What holds of every table over held nodes: its live requests, and the ends of the edges from a node, stand for those of the tree.
+    /// What holds of every table over held nodes: its live requests, and the ends of the edges from a node, stand for
+    /// those of the tree.
     pub fn laws(&self, pool: &Pool)
         ensures { StandsForStep pool.now self.now }
     {

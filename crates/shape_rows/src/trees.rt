@@ -203,7 +203,8 @@ fn a_shared_edge_gets_another_vertex(rt: HostRuntime) -> Result<(), Fail> {
     Ok(())
 }
 
-/// A compound of a solid at two places, the first one over a shell of the faces `first` and 5, the second one of 6 and 5.
+/// A compound of a solid at two places, the first one over a shell of the faces `first` and 5, the second one of 6 and
+/// 5.
 fn two_solids(alloc: Global, first: u32) -> Result<Tree, Fail> {
     let one = pair_of(alloc, 3, leaf(alloc, first), Turn::Forward, leaf(alloc, 5))?;
     let other = pair_of(alloc, 3, leaf(alloc, 6), Turn::Forward, leaf(alloc, 5))?;

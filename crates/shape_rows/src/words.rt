@@ -89,7 +89,8 @@ fn refuses(rt: &impl Abort, answer: Result<Word, WordFault>, want: WordFault) {
 #[test]
 fn pairs_cancel(rt: HostRuntime) {
     let alloc = rt.alloc();
-    // A part is used at datum 1 after datum 2, in an assembly that is used at the inverse of datum 2: it stands at datum 1.
+    // A part is used at datum 1 after datum 2, in an assembly that is used at the inverse of datum 2: it stands at
+    // datum 1.
     let part = Word::of(alloc, &[pair(1, 1), pair(2, 1)]);
     gives(
         &rt,

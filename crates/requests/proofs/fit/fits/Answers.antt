@@ -12,7 +12,10 @@ use Rattle.requests.proofs.fit.fits.Goals as goal
 pub returns : goal.returns
 returns c =
     let higher : rank_of (kind_at c.args.pool.now c.args.source.0) < rank_of (kind_at c.args.pool.now c.args.target.0) =
-    ltb-true (rank_of (kind_at c.args.pool.now c.args.source.0)) (rank_of (kind_at c.args.pool.now c.args.target.0)) (cc) in
+    ltb-true (rank_of (kind_at c.args.pool.now c.args.source.0)) (rank_of (kind_at c.args.pool.now c.args.target.0))
+    (cc) in
     let some : 0 < length (ids_used c.args.pool.now c.args.target.0) = omega arith in
     fit-is c.args.pool.now c.args.source.0 c.args.target.0 c.are_of.result higher some
-    (subst (λ (k : Kind). IsTrue c.are_of.result ↔ All (λ j. kind_at c.args.pool.now j ≡ k) (ids_used c.args.pool.now c.args.target.0)) c.kind-kind.ensures c.are_of.ensures)
+    (subst
+    (λ (k : Kind). IsTrue c.are_of.result ↔ All (λ j. kind_at c.args.pool.now j ≡ k)
+    (ids_used c.args.pool.now c.args.target.0)) c.kind-kind.ensures c.are_of.ensures)

@@ -17,12 +17,17 @@ loop-r-init c = refl
 pub loop-r-preserved : goal.loop-r-preserved
 loop-r-preserved c = elim c.if-allows.branch [
   | then-allows w ↦
-      w.found-is ∙ sym (allowed-more c.args.turn c.args.word.0 c.args.live.now c.loop-r.r-index any_request true c.loop-r-test.true (sym c.allows.ensures ∙ w.if-allows.true))
+      w.found-is ∙
+      sym (allowed-more c.args.turn c.args.word.0 c.args.live.now c.loop-r.r-index any_request true c.loop-r-test.true
+      (sym c.allows.ensures ∙ w.if-allows.true))
   | else-allows w ↦
-      w.found-is ∙ c.loop-r.invariant ∙ sym (allowed-more c.args.turn c.args.word.0 c.args.live.now c.loop-r.r-index any_request false c.loop-r-test.true (sym c.allows.ensures ∙ w.if-allows.false))
+      w.found-is ∙ c.loop-r.invariant ∙
+      sym (allowed-more c.args.turn c.args.word.0 c.args.live.now c.loop-r.r-index any_request false c.loop-r-test.true
+      (sym c.allows.ensures ∙ w.if-allows.false))
 ]
 
 pub returns : goal.returns
 returns c =
     c.loop-r.invariant ∙
-    ap (λ (l : List Request). last_allowed l c.args.turn c.args.word.0) (take_all c.loop-r.r-index c.args.live.now (omega (arith, c.loop-r-test.false)))
+    ap (λ (l : List Request). last_allowed l c.args.turn c.args.word.0)
+    (take_all c.loop-r.r-index c.args.live.now (omega (arith, c.loop-r-test.false)))

@@ -9,7 +9,8 @@ returns-in-Some c =
     let place : c.in-Some.place ≡ place_of c.args.sources.now.keys c.args.id =
     position-some (nat_eq c.args.id) c.args.sources.now.keys c.in-Some.place (sym c.in-Some.ensures.index) in
     c.as_slice.ensures.value ∙
-    sym (list_at-is c.args.live.now c.in-Some.place c.index-live-place.result (omega (arith, c.in-Some.ensures.within, c.requires.long)) c.index-live-place.is) ∙
+    sym (list_at-is c.args.live.now c.in-Some.place c.index-live-place.result
+    (omega (arith, c.in-Some.ensures.within, c.requires.long)) c.index-live-place.is) ∙
     ap (list_at c.args.live.now) place
 
 pub returns-in-None : goal.returns-in-None

@@ -14,9 +14,16 @@ invariant_of-self-in-Ok c =
     let more : c.push.new.self.items ≡ given ++ c.args.r ∷ [] = c.in_ok-push.ensures.items in
     record {
       spared = c.in-Ok.ensures.spared;
-      listed = λ i. subst (λ (l : List Request). listed_at c.note.new.sources.keys c.note.new.live.items i ≡ live_at l i) (sym more)
+      listed =
+          λ i. subst (λ (l : List Request). listed_at c.note.new.sources.keys c.note.new.live.items i ≡ live_at l i)
+          (sym more)
           (by_test (nat_eq i c.args.r.source.0)
-          (λ t. subst (λ (j : ℕ). listed_at c.note.new.sources.keys c.note.new.live.items j ≡ live_at (given ++ c.args.r ∷ []) j) (sym (eqb-true i c.args.r.source.0 t))
-          (c.in-Ok.ensures.source ∙ ap (λ (l : List Request). with_live l c.args.r) (c.self.invariant.listed c.args.r.source.0) ∙ sym (live-source given c.args.r)))
-          (λ f. let n = nat_eq-apart i c.args.r.source.0 f in c.in-Ok.ensures.others i n ∙ c.self.invariant.listed i ∙ sym (live-others given c.args.r i n)));
+          (λ t.
+          subst
+          (λ (j : ℕ). listed_at c.note.new.sources.keys c.note.new.live.items j ≡
+          live_at (given ++ c.args.r ∷ []) j) (sym (eqb-true i c.args.r.source.0 t))
+          (c.in-Ok.ensures.source ∙ ap (λ (l : List Request). with_live l c.args.r)
+          (c.self.invariant.listed c.args.r.source.0) ∙ sym (live-source given c.args.r)))
+          (λ f. let n = nat_eq-apart i c.args.r.source.0 f in
+          c.in-Ok.ensures.others i n ∙ c.self.invariant.listed i ∙ sym (live-others given c.args.r i n)));
     }
