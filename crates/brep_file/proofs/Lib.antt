@@ -5,6 +5,7 @@ pub mod LocationLaws
 pub mod UseLaws
 pub mod RecordLaws
 pub mod DepthLaws
+pub mod FileParts
 pub mod FileLaws
 pub mod SoundLaws
 pub mod SoundAgain

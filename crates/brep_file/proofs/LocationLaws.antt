@@ -29,14 +29,24 @@ module _ (exact : SectionsAreExact) (fields : FieldsAreExact) (most : ℕ) where
       let read = (exact h.0.0).takes h.0.1 rest all h.2 in
       let whole : Begins ts (section (codes "Locations") spell_location all) rest =
       subst (λ (n : ℕ). Begins ts (codes "Locations" ∷ decimal n ∷ flat_map spell_location all) rest) (sym read.1.0)
-      (fields.joined ts (codes "Locations" ∷ decimal h.0.0 ∷ []) h.0.1 (flat_map spell_location all) rest head.0 read.0) in
-      (whole, record { countable = subst IsSmall (sym read.1.0) head.1; sound = read.1.1; few = subst (λ (n : ℕ). n ≤ most) (sym read.1.0) head.2 })
+      (fields.joined ts (codes "Locations" ∷ decimal h.0.0 ∷ []) h.0.1 (flat_map spell_location all) rest
+      head.0 read.0) in (
+        whole,
+        record {
+          countable = subst IsSmall (sym read.1.0) head.1;
+          sound = read.1.1;
+          few = subst (λ (n : ℕ). n ≤ most) (sym read.1.0) head.2;
+        },
+      )
 
-  locations_again : (ts rest : List Token) (all : List LocationEntry) → Begins ts (section (codes "Locations") spell_location all) rest
+  locations_again : (ts rest : List Token) (all : List LocationEntry)
+      → Begins ts (section (codes "Locations") spell_location all) rest
       → FitLocations most all → location_section_at most ts ≡ Ok (all, rest)
   locations_again ts rest all b fit =
       let s = fields.split ts (codes "Locations" ∷ decimal (length all) ∷ []) (flat_map spell_location all) rest b in
-      rw (heading_again fields (codes "Locations") most ts s.0 (length all) s.1 fit.countable fit.few) ((exact (length all)).again s.0 rest all s.2 (refl, fit.sound))
+      rw (heading_again fields (codes "Locations") most ts s.0 (length all) s.1 fit.countable fit.few)
+      ((exact (length all)).again s.0 rest all s.2 (refl, fit.sound))
 
-  pub locations_section : IsExact (location_section_at most) (section (codes "Locations") spell_location) (FitLocations most)
+  pub locations_section : IsExact (location_section_at most) (section (codes "Locations") spell_location)
+      (FitLocations most)
   locations_section = record { takes = locations_takes; again = locations_again }

@@ -8,7 +8,8 @@ use Rattle.brep_file.specs.declared.reader.state.Gathered.{Gathered}
 use Rattle.brep_file.specs.declared.reader.uses.Stage.{Stage}
 use Rattle.brep_file.specs.declared.reader.uses.Stage.TheVariants as stages
 
-pub waiting_open : (stage : Stage) (b : RecordBounds) (s : SoFar) (parent : Kind) (before : ℕ) (g : Gathered) → uses_wait_at stage before g → at_uses stage b s parent g [] ≡ Err more
+pub waiting_open : (stage : Stage) (b : RecordBounds) (s : SoFar) (parent : Kind) (before : ℕ) (g : Gathered)
+    → uses_wait_at stage before g → at_uses stage b s parent g [] ≡ Err more
 waiting_open stages.Sign b s parent before g waits = refl
 waiting_open (stages.Location u) b s parent before g waits = refl
 waiting_open stages.Whole b s parent before g waits = absurd waits

@@ -17,12 +17,14 @@ use Rattle.brep_file.specs.Sound.{Limits}
 abbrev file_fault : ReadFault → Result File ReadFault
 file_fault x = Err x
 
-finished_fault : (s : Scan) (x : ReadFault) (r : Read File) → IsFault s x r → finished (length s.fed) (words_left s) r ≡ Err x
+finished_fault : (s : Scan) (x : ReadFault) (r : Read File) → IsFault s x r
+    → finished (length s.fed) (words_left s) r ≡ Err x
 finished_fault s x (Ok r) is = absurd is
 finished_fault s x (Err more) is = ap file_fault is
 finished_fault s x (Err (fault y)) is = ap file_fault is
 
-pub text_is : (limits : Limits) (bytes : List ℕ) (s0 s1 : Scan) (v : ℕ) → s0.fed ≡ bytes → IsVersion s0 s1 v → read_text limits bytes ≡ read_words limits (length s1.fed) v (words_left s1)
+pub text_is : (limits : Limits) (bytes : List ℕ) (s0 s1 : Scan) (v : ℕ) → s0.fed ≡ bytes → IsVersion s0 s1 v
+    → read_text limits bytes ≡ read_words limits (length s1.fed) v (words_left s1)
 unfolding read_text
 text_is limits bytes s0 s1 v fed is =
     ap (λ (b : List ℕ). read_head limits (length b) (head_at true 1 0 b)) (sym fed)
@@ -34,22 +36,28 @@ pub version_known : ScannerGivesTokens → (s0 s1 : Scan) (v : ℕ) → IsVersio
 unfolding tokens_of
 version_known scans s0 s1 v is = (scans.version s0.fed v (words_at is.place is.rest) (ap after_head is.head)).2
 
-pub head_stop : (limits : Limits) (bytes : List ℕ) (s0 : Scan) (x : ReadFault) → s0.fed ≡ bytes → read_head limits (length s0.fed) (head_of s0) ≡ Err x → read_text limits bytes ≡ Err x
+pub head_stop : (limits : Limits) (bytes : List ℕ) (s0 : Scan) (x : ReadFault) → s0.fed ≡ bytes
+    → read_head limits (length s0.fed) (head_of s0) ≡ Err x → read_text limits bytes ≡ Err x
 unfolding read_text
 head_stop limits bytes s0 x fed e = ap (λ (b : List ℕ). read_head limits (length b) (head_at true 1 0 b)) (sym fed) ∙ e
 
 module _ (limits : Limits) (s : Scan) (v : ℕ) where
-  pub body_stop : (x : ReadFault) → IsFault s x (from_locations limits (begun v) (front s)) → read_words limits (length s.fed) v (words_left s) ≡ Err x
+  pub body_stop : (x : ReadFault) → IsFault s x (from_locations limits (begun v) (front s))
+      → read_words limits (length s.fed) v (words_left s) ≡ Err x
   body_stop x is = finished_fault s x (from_locations limits (begun v) (front s)) is
 
-  pub body_read : (s' : Scan) (f : File) → from_locations limits (begun v) (front s) ≡ Ok (f, front s') → GoesTo s s' → read_words limits (length s.fed) v (words_left s) ≡ closing s' f
-  body_read s' f e goes = ap (finished (length s.fed) (words_left s)) e ∙ ap (λ l. closed f l (front s')) (sym goes.long)
+  pub body_read : (s' : Scan) (f : File) → from_locations limits (begun v) (front s) ≡ Ok (f, front s') → GoesTo s s'
+      → read_words limits (length s.fed) v (words_left s) ≡ closing s' f
+  body_read s' f e goes = ap (finished (length s.fed) (words_left s)) e ∙ ap (λ l. closed f l (front s'))
+      (sym goes.long)
 
-  pub body_fails : (e : ReadStop) → Fails s (from_locations limits (begun v) (front s)) e → FileGiven (Err e) (read_words limits (length s.fed) v (words_left s))
+  pub body_fails : (e : ReadStop) → Fails s (from_locations limits (begun v) (front s)) e
+      → FileGiven (Err e) (read_words limits (length s.fed) v (words_left s))
   body_fails stops.NoMemory is = tt
   body_fails (stops.Fault x) is = body_stop x is
 
 -- what stops a step stops the whole
-pub stopped_with : (r : Result File ReadStop) (e : ReadStop) (read : Result File ReadFault) → IsErrAnd r (λ z. z ≡ e) → FileGiven (Err e) read → FileGiven r read
+pub stopped_with : (r : Result File ReadStop) (e : ReadStop) (read : Result File ReadFault) → IsErrAnd r (λ z. z ≡ e)
+    → FileGiven (Err e) read → FileGiven r read
 stopped_with (Ok f) e read wrong given = absurd wrong
 stopped_with (Err z) e read is given = subst (λ (w : ReadStop). FileGiven (Err w) read) (sym is) given

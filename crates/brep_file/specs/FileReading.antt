@@ -1,5 +1,6 @@
 -- Reading a whole file from its tokens and from its bytes.
-use Rattle.std.specs.Prelude.{ℕ, if◌then◌else◌, nat_le, nat_eq, List, [], ◌∷◌, length, Option, Some, None, Result, Ok, Err, unwrap_or, true, codes}
+use Rattle.std.specs.Prelude.{ℕ, if◌then◌else◌, nat_le, nat_eq, List, [], ◌∷◌, length, Option, Some, None, Result, Ok}
+use Rattle.std.specs.Prelude.{Err, unwrap_or, true, codes}
 use Rattle.std.specs.Cmp.Lexicographic.{pointwise}
 use Rattle.brep_tokens.specs.Tokens.{Word, Head, missing, unread, version, head_at, words_at}
 use Rattle.brep_tokens.specs.declared.text.Token.{Token}
@@ -40,26 +41,33 @@ module _ (limits : Limits) where
   unfoldable pub from_records : File → List Token → Read File
   from_records f ts =
       heading_at (codes "TShapes") limits.records ts >>= λ n.
-      records_from (record { tables = sizes_of f; version = f.version; records = n.0; uses = limits.uses }) nothing_read n.0 n.1 >>= λ x.
+      records_from (record { tables = sizes_of f; version = f.version; records = n.0; uses = limits.uses }) nothing_read
+      n.0 n.1 >>= λ x.
       from_root (record f { records = x.0.records }) x.1
 
   unfoldable pub from_meshes : File → List Token → Read File
-  from_meshes f ts = section_at (codes "Triangulations") limits.entries mesh_at ts >>= λ x. from_records (record f { meshes = x.0 }) x.1
+  from_meshes f ts = section_at (codes "Triangulations") limits.entries mesh_at ts
+      >>= λ x. from_records (record f { meshes = x.0 }) x.1
 
   unfoldable pub from_surfaces : File → List Token → Read File
-  from_surfaces f ts = section_at (codes "Surfaces") limits.entries surface_at ts >>= λ x. from_meshes (record f { surfaces = x.0 }) x.1
+  from_surfaces f ts = section_at (codes "Surfaces") limits.entries surface_at ts
+      >>= λ x. from_meshes (record f { surfaces = x.0 }) x.1
 
   unfoldable pub from_polygons_on : File → List Token → Read File
-  from_polygons_on f ts = section_at (codes "PolygonOnTriangulations") limits.entries polygon_on_at ts >>= λ x. from_surfaces (record f { polygons_on = x.0 }) x.1
+  from_polygons_on f ts = section_at (codes "PolygonOnTriangulations") limits.entries polygon_on_at ts
+      >>= λ x. from_surfaces (record f { polygons_on = x.0 }) x.1
 
   unfoldable pub from_polygons : File → List Token → Read File
-  from_polygons f ts = section_at (codes "Polygon3D") limits.entries polygon_at ts >>= λ x. from_polygons_on (record f { polygons = x.0 }) x.1
+  from_polygons f ts = section_at (codes "Polygon3D") limits.entries polygon_at ts
+      >>= λ x. from_polygons_on (record f { polygons = x.0 }) x.1
 
   unfoldable pub from_curves : File → List Token → Read File
-  from_curves f ts = section_at (codes "Curves") limits.entries (curve3_at 0) ts >>= λ x. from_polygons (record f { curves = x.0 }) x.1
+  from_curves f ts = section_at (codes "Curves") limits.entries (curve3_at 0) ts
+      >>= λ x. from_polygons (record f { curves = x.0 }) x.1
 
   unfoldable pub from_curve2s : File → List Token → Read File
-  from_curve2s f ts = section_at (codes "Curve2ds") limits.entries curve2_at ts >>= λ x. from_curves (record f { curve2s = x.0 }) x.1
+  from_curve2s f ts = section_at (codes "Curve2ds") limits.entries curve2_at ts
+      >>= λ x. from_curves (record f { curve2s = x.0 }) x.1
 
   unfoldable pub from_locations : File → List Token → Read File
   from_locations f ts = location_section_at limits.entries ts >>= λ x. from_curve2s (record f { locations = x.0 }) x.1
@@ -68,11 +76,13 @@ module _ (limits : Limits) where
 
 abbrev pub short_front : List Word → List Token
 short_front [] = []
-short_front (w ∷ ws) = if nat_le (length w.text) 128 then record { offset = w.offset; text = w.text } ∷ short_front ws else []
+short_front (w ∷ ws) = if nat_le (length w.text) 128 then record { offset = w.offset; text = w.text } ∷ short_front ws
+    else []
 
 abbrev pub too_long : List Word → Option ReadFault
 too_long [] = None
-too_long (w ∷ ws) = if nat_le (length w.text) 128 then too_long ws else Some (record { code = faults.TokenTooLong; offset = w.offset; value = 129; limit = 128 })
+too_long (w ∷ ws) = if nat_le (length w.text) 128 then too_long ws
+    else Some (record { code = faults.TokenTooLong; offset = w.offset; value = 129; limit = 128 })
 
 -- where a token is due after them: the longer one is refused, or the end of the text of this size
 abbrev pub unfinished : ℕ → List Word → ReadFault
@@ -108,7 +118,8 @@ read_words limits size v ws = finished size ws (from_locations limits (begun v) 
 
 abbrev pub read_head : Limits → ℕ → Head → Result File ReadFault
 read_head limits size missing = Err (record { code = faults.NoVersion; offset = size; value = 0; limit = 0 })
-read_head limits size (unread line k) = Err (record { code = faults.VersionNotRead; offset = k; value = line; limit = 0 })
+read_head limits size (unread line k) =
+    Err (record { code = faults.VersionNotRead; offset = k; value = line; limit = 0 })
 read_head limits size (version v k rest) = read_words limits size v (words_at k rest)
 
 -- The file that the bytes spell, within the limits; or the fault of the first token that isn't accepted.

@@ -43,7 +43,8 @@ pub record GoesTo (old new : Scan) : Type 0 where
 
 -- the next of them, or the fault where one is due and none comes
 abbrev pub TokenGiven : Scan → Scan → Result Token ReadFault → Type 0
-TokenGiven old new (Ok t) = (front old ≡ t ∷ front new) × GoesTo old new × (length (words_left new) < length (words_left old))
+TokenGiven old new (Ok t) = (front old ≡ t ∷ front new) × GoesTo old new
+    × (length (words_left new) < length (words_left old))
 TokenGiven old new (Err x) = (front old ≡ []) × (missing_at old ≡ x)
 
 -- the version and the words after its line, or the fault of the version line
@@ -100,4 +101,9 @@ pub record IsPartRead (f : File) : Type 0 where
 
 -- so many records, and the root use
 abbrev pub from_counted : File → ℕ → List Token → Read File
-from_counted f n ts = records_from (record { tables = sizes_of f; version = f.version; records = n; uses = file_limits.uses }) nothing_read n ts >>= λ x. from_root (record f { records = x.0.records }) x.1
+from_counted f n ts = records_from (record {
+  tables = sizes_of f;
+  version = f.version;
+  records = n;
+  uses = file_limits.uses;
+}) nothing_read n ts >>= λ x. from_root (record f { records = x.0.records }) x.1

@@ -9,8 +9,10 @@ use Rattle.brep_file.specs.FileReading.{read_text}
 use Rattle.brep_file.specs.Spelling.{spell_file}
 
 pub record ReadingIsExact : Type 0 where
-  pub takes : (limits : Limits) (bytes : List ℕ) (f : File) → read_text limits bytes ≡ Ok f → Spells bytes f × IsWithin limits f
-  pub again : (limits : Limits) (bytes : List ℕ) (f : File) → Spells bytes f → IsWithin limits f → read_text limits bytes ≡ Ok f
+  pub takes : (limits : Limits) (bytes : List ℕ) (f : File) → read_text limits bytes ≡ Ok f
+      → Spells bytes f × IsWithin limits f
+  pub again : (limits : Limits) (bytes : List ℕ) (f : File) → Spells bytes f → IsWithin limits f
+      → read_text limits bytes ≡ Ok f
   -- a text spells one file at most
   pub one : (bytes : List ℕ) (f g : File) → Spells bytes f → Spells bytes g → f ≡ g
   -- and so do a version and a list of tokens

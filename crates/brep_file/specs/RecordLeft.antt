@@ -6,15 +6,17 @@ use Rattle.brep_tokens.specs.declared.fault.ReadFault.{ReadFault}
 use Rattle.brep_tokens.specs.declared.fault.ReadStop.{ReadStop}
 use Rattle.lists.specs.Results.{◌>>=◌}
 use Rattle.entry_readers.specs.Reading.{Read, Refusal, fault}
-use Rattle.entry_readers.specs.Takes.{Takes}
+use Rattle.entry_readers.specs.Takes.{HasRead, ReadsAs, Takes}
 use Rattle.orientation.specs.declared.kind.Kind.{Kind}
 use Rattle.tshape_data.specs.HeadLeft.{head_left, IsWaiting as IsWaitingHead}
+use Rattle.tshape_data.specs.HeadReading.{head_at}
 use Rattle.tshape_data.specs.RepReading.{most_reps}
 use Rattle.tshape_data.specs.Sound.{rep_count}
 use Rattle.tshape_data.specs.declared.head.Head.{Head}
 use Rattle.tshape_data.specs.declared.reader.HeadReader.{HeadReader}
-use Rattle.brep_file.specs.Many.{many_left}
-use Rattle.brep_file.specs.RecordReading.{RecordBounds, Gathered, SoFar, located, record_at, root_at, root_located, used, uses_from}
+use Rattle.brep_file.specs.Many.{many_from, many_left}
+use Rattle.brep_file.specs.RecordReading.{RecordBounds, Gathered, SoFar, located, none_gathered, nothing_read}
+use Rattle.brep_file.specs.RecordReading.{record_at, root_at, root_located, used, uses_from, with_record}
 use Rattle.brep_file.specs.declared.uses.FileUse.{FileUse}
 use Rattle.brep_file.specs.declared.reader.state.RecordBounds.{RecordBounds as HeldBounds}
 use Rattle.brep_file.specs.declared.reader.state.Gathered.{Gathered as HeldGathered}
@@ -130,21 +132,60 @@ record_done_at (Some head) before reps r = AreDoneUses before r.uses × HasFewRe
 abbrev pub IsDoneRecord : ℕ → ℕ → RecordReader → Type 0
 IsDoneRecord before reps r = record_done_at r.head before reps r
 
--- Of what was left, a reader of uses took a token, after these records and in a record of this kind.
-abbrev pub TakesUses : (List Token → Read Gathered) → HeldBounds → HeldSoFar → Kind → Token → UsesReader → Result Progress ReadStop → Type 0
-TakesUses left b s parent t new result =
-    Takes left t (uses_left (bounds_of b) (so_far_of s) parent new) (IsWaitingUses s.uses new) (AreDoneUses s.uses new) result
+-- A reader of uses, at a stage, took a token after these records and in a record of this kind.
+abbrev pub TakesUsesAt : UsesStage → HeldBounds → HeldSoFar → Kind → UsesReader → Token → UsesReader
+    → Result Progress ReadStop → Type 0
+TakesUsesAt stage b s parent old t new result = Takes (at_uses stage (bounds_of b) (so_far_of s) parent old.gathered) t
+    (uses_left (bounds_of b) (so_far_of s) parent new) (IsWaitingUses s.uses new) (AreDoneUses s.uses new) result
 
--- Of what was left, a reader of a record took a token, after these records.
-abbrev pub TakesRecord : (List Token → Read SoFar) → HeldBounds → HeldSoFar → Token → RecordReader → Result Progress ReadStop → Type 0
-TakesRecord left b s t new result =
-    Takes left t (record_left (bounds_of b) (so_far_of s) new) (IsWaitingRecord s.uses s.reps new) (IsDoneRecord s.uses s.reps new) result
+-- the same at the stage where it is
+abbrev pub TakesUses : HeldBounds → HeldSoFar → Kind → UsesReader → Token → UsesReader
+    → Result Progress ReadStop → Type 0
+TakesUses b s parent old t new result = TakesUsesAt old.stage b s parent old t new result
+
+-- A reader of a record that has this head, or none yet, took a token after these records.
+abbrev pub TakesRecordAt : Option Head → HeldBounds → HeldSoFar → RecordReader → Token → RecordReader
+    → Result Progress ReadStop → Type 0
+TakesRecordAt head b s old t new result = Takes (at_record head (bounds_of b) (so_far_of s) old) t
+    (record_left (bounds_of b) (so_far_of s) new)
+    (IsWaitingRecord s.uses s.reps new) (IsDoneRecord s.uses s.reps new) result
+
+-- the same with the head that it has
+abbrev pub TakesRecord : HeldBounds → HeldSoFar → RecordReader → Token → RecordReader
+    → Result Progress ReadStop → Type 0
+TakesRecord b s old t new result = TakesRecordAt old.head b s old t new result
+
+-- ---- a reader that begins, and one that is done
+
+-- all uses of a record are left to read, whatever stands before
+abbrev pub HasAllUses : UsesReader → Type 0
+HasAllUses r = (b : RecordBounds) (s : SoFar) (parent : Kind) →
+    ReadsAs (uses_left b s parent r) (uses_from b s parent none_gathered)
+
+-- a head, where so many representations stand before it
+abbrev pub head_after : HeldBounds → ℕ → List Token → Read Head
+head_after b reps ts = head_at (record (bounds_of b).tables { reps = reps }) b.version ts
+
+-- all of a record is left to read, after records with so many representations
+abbrev pub HasAllOfRecord : HeldBounds → ℕ → RecordReader → Type 0
+HasAllOfRecord b reps r = (s : SoFar) (ts : List Token) → s.reps ≡ reps
+    → record_left (bounds_of b) s r ts ≡ record_at (bounds_of b) s ts
+
+-- a record was read, whatever stands before: this head and these uses
+abbrev pub HasReadRecord : RecordReader → Head → HeldGathered → Type 0
+HasReadRecord r head g = (b : RecordBounds) (s : SoFar)
+    → HasRead (record_left b s r) (with_record s head (gathered_of g))
 
 -- ---- the records
 
+-- the records, from the first
+abbrev pub records_at : HeldBounds → List Token → Read SoFar
+records_at b ts = many_from (record_at (bounds_of b)) nothing_read b.records ts
+
 -- What is left to read of the records.
 abbrev pub records_left : RecordsReader → List Token → Read SoFar
-records_left r ts = many_left (record_at (bounds_of r.bounds)) (record_left (bounds_of r.bounds) (so_far_of r.so_far) r.reader) (so_far_of r.so_far) r.due ts
+records_left r ts = many_left (record_at (bounds_of r.bounds))
+    (record_left (bounds_of r.bounds) (so_far_of r.so_far) r.reader) (so_far_of r.so_far) r.due ts
 
 pub record AreWaitingRecords (r : RecordsReader) : Type 0 where
   pub due : 0 < r.due

@@ -1,5 +1,6 @@
 -- Reading the records of a file one after another, and the root use.
-use Rattle.std.specs.Prelude.{ℕ, suc, max, ◌+◌, ◌-◌, ◌&&◌, Bool, if◌then◌else◌, nat_le, nat_lt, nat_eq, List, [], ◌∷◌, ◌++◌, length, slice_get, Option, Some, None, Result, Ok, Err, codes}
+use Rattle.std.specs.Prelude.{ℕ, suc, max, ◌+◌, ◌-◌, ◌&&◌, Bool, if◌then◌else◌, nat_le, nat_lt, nat_eq, List, [], ◌∷◌}
+use Rattle.std.specs.Prelude.{◌++◌, length, slice_get, Option, Some, None, Result, Ok, Err, codes}
 use Rattle.std.specs.Cmp.Lexicographic.{pointwise}
 use Rattle.std.specs.Option.{option_map}
 use Rattle.brep_tokens.specs.Forms.{use_sign_of}
@@ -48,7 +49,8 @@ with_record s head g = record {
   reps = s.reps + rep_count head.payload;
 }
 
--- how many entries each table has, of which version the file is, how many records there are, and how many uses they may have together
+-- how many entries each table has, of which version the file is, how many records there are, and how many uses they may
+-- have together
 pub record RecordBounds : Type 0 where
   pub tables : HeadBounds
   pub version : ℕ
@@ -89,7 +91,8 @@ named u child = record { turn = u.0; number = u.1; child = child }
 -- what a token names in a record of a kind, after so many uses
 abbrev pub named_at : RecordBounds → List Seen → Kind → ℕ → Token → Option (Turn × ℕ) → Result Named Refusal
 named_at b seen parent uses t None = Err (refused faults.UseExpected t)
-named_at b seen parent uses t (Some u) = above_at b.records seen t u.1 >>= fitting b parent uses t >>= λ child. Ok (named u child)
+named_at b seen parent uses t (Some u) = above_at b.records seen t u.1 >>= fitting b parent uses t
+    >>= λ child. Ok (named u child)
 
 -- a use more, with its location
 abbrev pub gathered : Gathered → Named → ℕ → Gathered
@@ -106,19 +109,22 @@ module _ (b : RecordBounds) (s : SoFar) (parent : Kind) where
   abbrev mutual
     pub uses_from : Gathered → List Token → Read Gathered
     uses_from g [] = Err more
-    uses_from g (t ∷ ts) = if is_star t.text then Ok (g, ts) else (named_at b s.seen parent (s.uses + length g.uses) t (use_of t.text) >>= λ u. located g u ts)
+    uses_from g (t ∷ ts) = if is_star t.text then Ok (g, ts)
+        else (named_at b s.seen parent (s.uses + length g.uses) t (use_of t.text) >>= λ u. located g u ts)
 
     -- after the sign and the number
     pub located : Gathered → Named → List Token → Read Gathered
     located g u [] = Err more
-    located g u (t ∷ ts) = ranged_at 0 b.tables.locations (t ∷ ts) >>= λ location. uses_from (gathered g u location.0) ts
+    located g u (t ∷ ts) = ranged_at 0 b.tables.locations (t ∷ ts)
+        >>= λ location. uses_from (gathered g u location.0) ts
 
 -- a record more, of which the uses are read
 abbrev pub used : SoFar → Head → Read Gathered → Read SoFar
 used s head read = read >>= λ g. Ok (with_record s head g.0, g.1)
 
 abbrev pub record_at : RecordBounds → SoFar → List Token → Read SoFar
-record_at b s ts = head_at (record b.tables { reps = s.reps }) b.version ts >>= λ head. used s head.0 (uses_from b s head.0.kind none_gathered head.1)
+record_at b s ts = head_at (record b.tables { reps = s.reps }) b.version ts
+    >>= λ head. used s head.0 (uses_from b s head.0.kind none_gathered head.1)
 
 -- so many records more
 abbrev pub records_from : RecordBounds → SoFar → ℕ → List Token → Read SoFar
@@ -128,11 +134,13 @@ records_from b s n ts = many_from (record_at b) s n ts
 
 abbrev pub root_named : ℕ → Token → Option (Turn × ℕ) → Result (Turn × ℕ) Refusal
 root_named n t None = Err (refused faults.UseExpected t)
-root_named n t (Some u) = if nat_le 1 u.1 && nat_le u.1 n then Ok u else Err (fault (at_token faults.IndexOutOfRange u.1 n t))
+root_named n t (Some u) = if nat_le 1 u.1 && nat_le u.1 n then Ok u
+    else Err (fault (at_token faults.IndexOutOfRange u.1 n t))
 
 abbrev pub root_located : ℕ → Turn × ℕ → List Token → Read FileUse
 root_located locations u [] = Err more
-root_located locations u (t ∷ ts) = ranged_at 0 locations (t ∷ ts) >>= λ l. Ok (record { turn = u.0; number = u.1; location = l.0 }, ts)
+root_located locations u (t ∷ ts) = ranged_at 0 locations (t ∷ ts)
+    >>= λ l. Ok (record { turn = u.0; number = u.1; location = l.0 }, ts)
 
 abbrev pub root_at : ℕ → ℕ → List Token → Read FileUse
 root_at locations n [] = Err more

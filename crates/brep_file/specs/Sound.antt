@@ -50,7 +50,8 @@ sizes_of f = record {
   reps = 0;
 }
 
--- a use in the record with the number `own` and of the kind `parent`: it names a record above, whose kind is in order, and
+-- a use in the record with the number `own` and of the kind `parent`: it names a record above, whose kind is in order,
+-- and
 -- a location
 pub record IsUse (f : File) (own : ℕ) (parent : Kind) (u : FileUse) : Type 0 where
   pub above : own < u.number

@@ -30,8 +30,8 @@ impl FileReader {
         }
     }
 
-    /// The next piece of the file. Its faults are held back to `finish`: the only answer but `Ok` is want of memory, and then each
-    /// further piece has it too.
+    /// The next piece of the file. Its faults are held back to `finish`: the only answer but `Ok` is want of memory,
+    /// and then each further piece has it too.
     pub fn feed(&mut self, piece: &[u8]) -> Result<(), ReadStop>
         requires few { length (fed self.old) + length piece.now < 2 ^ 64 }
         ensures { Gathers piece.now self.old self.new result }
@@ -48,8 +48,8 @@ impl FileReader {
         }
     }
 
-    /// All bytes have come: the file that they spell, or the fault of the first token that isn't accepted. After want of memory
-    /// nothing is read.
+    /// All bytes have come: the file that they spell, or the fault of the first token that isn't accepted. After want
+    /// of memory nothing is read.
     pub fn finish(self) -> Result<File, ReadStop>
         ensures { Finishes self result (read_text file_limits (fed self)) }
     {

@@ -10,7 +10,8 @@ use orientation::laws::signs_and_names_tell;
 use surface_tables::laws::surfaces_are_exact;
 use tshape_data::laws::{heads_are_exact, heads_tell};
 
-/// What is read is spelled so, what is spelled so is read, and a text spells one file at most; so do a version and its tokens.
+/// What is read is spelled so, what is spelled so is read, and a text spells one file at most; so do a version and its
+/// tokens.
 pub fn reading_is_exact()
     ensures { ReadingIsExact }
 {

@@ -29,7 +29,8 @@ no_half k (suc n) lt = refl
 
 no_knot : (k : KnotsDue) → 0 < k.due → knots_left k [] ≡ Err more
 no_knot k lt =
-    elim k.half as (λ b. (if b then half_knot k k.due [] else knots_from (record { texts = k.texts; counts = k.counts }) k.due []) ≡ Err more) [
+    elim k.half as (λ b. (if b then half_knot k k.due []
+    else knots_from (record { texts = k.texts; counts = k.counts }) k.due []) ≡ Err more) [
       | true ↦ no_half k k.due lt
       | false ↦ no_knots (record { texts = k.texts; counts = k.counts }) k.due lt
     ]

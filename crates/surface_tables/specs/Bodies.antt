@@ -17,7 +17,8 @@ net_poles net = net.upoles * net.vpoles
 abbrev pub form_size : Form → ℕ
 form_size (forms.Plain code) = plain_size code
 form_size (forms.Swept code) = swept_size code
-form_size (forms.Bezier urational vrational udegree vdegree) = bezier_poles udegree vdegree * per_pole urational vrational
+form_size (forms.Bezier urational vrational udegree vdegree) =
+    bezier_poles udegree vdegree * per_pole urational vrational
 form_size (forms.BSpline net uknots vknots) = net_poles net * per_pole net.flags.urational net.flags.vrational
 form_size (forms.Around wrap) = wrap_size wrap
 

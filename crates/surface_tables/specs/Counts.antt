@@ -5,7 +5,8 @@ use Rattle.surface_tables.specs.declared.parts.Wrap.TheVariants.{Trimmed, Offset
 
 -- plane, cylinder, cone, sphere, torus
 abbrev pub plain_size : ℕ → ℕ
-plain_size code = if code == 1 then 12 else (if code == 2 then 13 else (if code == 3 then 14 else (if code == 4 then 13 else 14)))
+plain_size code = if code == 1 then 12
+    else (if code == 2 then 13 else (if code == 3 then 14 else (if code == 4 then 13 else 14)))
 
 -- extrusion: a direction; revolution: a point and a direction
 abbrev pub swept_size : ℕ → ℕ

@@ -46,7 +46,13 @@ abbrev pub flags_of : Bool → Bool → Bool → Bool → SurfaceFlags
 flags_of u v uflag vflag = record { urational = u; vrational = v; uflag = uflag; vflag = vflag }
 
 abbrev pub net_of : SurfaceFlags → ℕ → ℕ → ℕ → ℕ → Net
-net_of f udegree vdegree upoles vpoles = record { flags = f; udegree = udegree; vdegree = vdegree; upoles = upoles; vpoles = vpoles }
+net_of f udegree vdegree upoles vpoles = record {
+  flags = f;
+  udegree = udegree;
+  vdegree = vdegree;
+  upoles = upoles;
+  vpoles = vpoles;
+}
 
 abbrev pub counts_left : SplineCounts → List Token → Read Body
 counts_left (counts.Udegree f) ts = do
@@ -54,19 +60,23 @@ counts_left (counts.Udegree f) ts = do
   vdegree ← number_at udegree.1
   upoles ← number_at vdegree.1
   vpoles ← sized_at (λ n. upoles.0 * n) upoles.1
-  knots_of_net (net_of f udegree.0 vdegree.0 upoles.0 vpoles.0) (upoles.0 * vpoles.0 * per_pole f.urational f.vrational) vpoles.1
+  knots_of_net (net_of f udegree.0 vdegree.0 upoles.0 vpoles.0)
+      (upoles.0 * vpoles.0 * per_pole f.urational f.vrational) vpoles.1
 counts_left (counts.Vdegree f udegree) ts = do
   vdegree ← number_at ts
   upoles ← number_at vdegree.1
   vpoles ← sized_at (λ n. upoles.0 * n) upoles.1
-  knots_of_net (net_of f udegree vdegree.0 upoles.0 vpoles.0) (upoles.0 * vpoles.0 * per_pole f.urational f.vrational) vpoles.1
+  knots_of_net (net_of f udegree vdegree.0 upoles.0 vpoles.0)
+      (upoles.0 * vpoles.0 * per_pole f.urational f.vrational) vpoles.1
 counts_left (counts.Upoles f udegree vdegree) ts = do
   upoles ← number_at ts
   vpoles ← sized_at (λ n. upoles.0 * n) upoles.1
-  knots_of_net (net_of f udegree vdegree upoles.0 vpoles.0) (upoles.0 * vpoles.0 * per_pole f.urational f.vrational) vpoles.1
+  knots_of_net (net_of f udegree vdegree upoles.0 vpoles.0)
+      (upoles.0 * vpoles.0 * per_pole f.urational f.vrational) vpoles.1
 counts_left (counts.Vpoles f udegree vdegree upoles) ts = do
   vpoles ← sized_at (λ n. upoles * n) ts
-  knots_of_net (net_of f udegree vdegree upoles vpoles.0) (upoles * vpoles.0 * per_pole f.urational f.vrational) vpoles.1
+  knots_of_net (net_of f udegree vdegree upoles vpoles.0)
+      (upoles * vpoles.0 * per_pole f.urational f.vrational) vpoles.1
 counts_left (counts.Uknots net decimals) ts = knots_of_net net decimals ts
 counts_left (counts.Vknots net decimals uknots) ts = do
   vknots ← number_at ts

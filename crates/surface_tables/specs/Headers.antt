@@ -14,12 +14,14 @@ is_code n = nat_le 1 n && nat_le n 11
 -- the code of a surface, with its token
 abbrev pub code_at : List Token → Read (ℕ × Token)
 code_at [] = Err more
-code_at (t ∷ ts) = number_at (t ∷ ts) >>= λ n. if is_code n.0 then Ok ((n.0, t), n.1) else Err (fault (at_token codes.UnknownCode n.0 0 t))
+code_at (t ∷ ts) = number_at (t ∷ ts) >>= λ n. if is_code n.0 then Ok ((n.0, t), n.1)
+    else Err (fault (at_token codes.UnknownCode n.0 0 t))
 
 -- a number of which follows how many poles there are: a number of poles has at most 18 digits
 abbrev pub sized_at : (ℕ → ℕ) → List Token → Read ℕ
 sized_at poles [] = Err more
-sized_at poles (t ∷ ts) = number_at (t ∷ ts) >>= λ n. if nat_lt (poles n.0) (10 ^ 18) then Ok n else Err (refused codes.TooMany t)
+sized_at poles (t ∷ ts) = number_at (t ∷ ts) >>= λ n. if nat_lt (poles n.0) (10 ^ 18) then Ok n
+    else Err (refused codes.TooMany t)
 
 -- the u and v rational flags, the u and v degrees
 abbrev pub bezier_at : List Token → Read Body
@@ -43,4 +45,14 @@ spline_at ts = do
   vpoles ← sized_at (λ v. upoles.0 * v) upoles.1
   uknots ← number_at vpoles.1
   vknots ← number_at uknots.1
-  Ok (body_of (forms.BSpline (record { flags = record { urational = urational.0; vrational = vrational.0; uflag = uflag.0; vflag = vflag.0 }; udegree = udegree.0; vdegree = vdegree.0; upoles = upoles.0; vpoles = vpoles.0 }) uknots.0 vknots.0), vknots.1)
+  Ok (
+    body_of (forms.BSpline
+        (record {
+          flags = record { urational = urational.0; vrational = vrational.0; uflag = uflag.0; vflag = vflag.0 };
+          udegree = udegree.0;
+          vdegree = vdegree.0;
+          upoles = upoles.0;
+          vpoles = vpoles.0;
+        }) uknots.0 vknots.0),
+    vknots.1,
+  )

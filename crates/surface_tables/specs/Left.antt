@@ -1,10 +1,11 @@
 -- What the reader of surfaces has still to read.
-use Rattle.std.specs.Prelude.{◌≡◌, ◌-◌, ◌+◌, ℕ, List, IsSome, Option, Some, None, Ok}
+use Rattle.std.specs.Prelude.{◌≡◌, ◌-◌, ◌+◌, ℕ, List, IsSome, Option, Some, None, Ok, Result}
 use Rattle.lists.specs.Results.{◌>>=◌}
 use Rattle.entry_readers.specs.Reading.{Read}
-use Rattle.entry_readers.specs.Takes.{IsOpen}
+use Rattle.entry_readers.specs.Takes.{IsOpen, Takes}
 use Rattle.brep_tokens.specs.declared.fault.Progress.{Progress}
 use Rattle.brep_tokens.specs.declared.fault.Progress.TheVariants as progress
+use Rattle.brep_tokens.specs.declared.fault.ReadStop.{ReadStop}
 use Rattle.brep_tokens.specs.declared.text.Token.{Token}
 use Rattle.surface_tables.specs.Frames.{framed}
 use Rattle.surface_tables.specs.PartLeft.{Waits, part_left}
@@ -45,5 +46,10 @@ IsDone r = IsSome r.whole
 
 -- a part was closed, and the surface is whole or goes on
 abbrev pub Closes : (List Token → Read Surface) → SurfaceReader → Progress → Type 0
-Closes old new progress.More = ((rest : List Token) → surface_left new rest ≡ old rest) × IsOpen (surface_left new) × IsWaiting new
+Closes old new progress.More = ((rest : List Token) → surface_left new rest ≡ old rest) × IsOpen (surface_left new)
+    × IsWaiting new
 Closes old new progress.Whole = ((rest : List Token) → surface_left new rest ≡ old rest) × IsDone new
+
+-- A reader of a surface took a token: it waits for more, or the surface is whole.
+abbrev pub TakesSurface : SurfaceReader → Token → SurfaceReader → Result Progress ReadStop → Type 0
+TakesSurface old t new result = Takes (surface_left old) t (surface_left new) (IsWaiting new) (IsDone new) result

@@ -14,6 +14,7 @@ use Rattle.surface_tables.specs.Headers.{code_at}
 use Rattle.surface_tables.specs.Surfaces.{after_texts, body_at, net_surface, part_at}
 use Rattle.surface_tables.specs.declared.header.HeaderStep.{HeaderStep}
 use Rattle.surface_tables.specs.declared.parts.Body.{Body}
+use Rattle.surface_tables.specs.declared.parts.Form.{Form}
 use Rattle.surface_tables.specs.declared.parts.Part.{Part}
 use Rattle.surface_tables.specs.declared.parts.Part.TheVariants as parts
 use Rattle.surface_tables.specs.declared.part.PartReader.{PartReader}
@@ -27,11 +28,16 @@ AnswersCode t (Err f) = (rest : List Token) → code_at (t ∷ rest) ≡ Err (fa
 
 -- a code where so many are open around it, and what it begins
 abbrev pub first_left : ℕ → List Token → Read Part
-first_left nest ts = code_at ts >>= λ c. if nat_lt nest 64 then part_at (nest + 1) c.0.0 c.1 else Err (fault (at_token codes.NestLimit 65 64 c.0.1))
+first_left nest ts = code_at ts >>= λ c. if nat_lt nest 64 then part_at (nest + 1) c.0.0 c.1
+    else Err (fault (at_token codes.NestLimit 65 64 c.0.1))
 
 -- decimals and the others, after the numbers
 abbrev pub bodied : ℕ → Read Body → Read Part
 bodied nest read = read >>= λ b. body_at nest b.0 b.1
+
+-- so many decimals of a form, and the others
+abbrev pub form_at : ℕ → Form → ℕ → List Token → Read Part
+form_at nest form decimals ts = body_at nest (record { form = form; decimals = decimals }) ts
 
 abbrev pub header_left : ℕ → HeaderStep → List Token → Read Part
 header_left nest step ts = bodied nest (step_left step ts)
@@ -42,9 +48,12 @@ at_stage (stages.Bezier h) r ts = bodied (r.nest + 1) (bezier_left h ts)
 at_stage (stages.Flags h) r ts = bodied (r.nest + 1) (flags_left h ts)
 at_stage (stages.Counts h) r ts = bodied (r.nest + 1) (counts_left h ts)
 at_stage (stages.Texts form) r ts = decimals_left r.texts ts >>= λ x. after_texts (r.nest + 1) form x.0 x.1
-at_stage (stages.Curve code) r ts = curve3_left r.curve ts >>= λ c. Ok (parts.Leaf (surfaces.Swept code r.texts.texts c.0), c.1)
-at_stage (stages.Uknots net vknots) r ts = knots_left r.uknots ts >>= λ u. knots_at vknots u.1 >>= λ v. Ok (net_surface net r.texts.texts u.0 v.0, v.1)
-at_stage (stages.Vknots net) r ts = knots_left r.vknots ts >>= λ v. Ok (net_surface net r.texts.texts (record { texts = r.uknots.texts; counts = r.uknots.counts }) v.0, v.1)
+at_stage (stages.Curve code) r ts = curve3_left r.curve ts
+    >>= λ c. Ok (parts.Leaf (surfaces.Swept code r.texts.texts c.0), c.1)
+at_stage (stages.Uknots net vknots) r ts = knots_left r.uknots ts >>= λ u. knots_at vknots u.1
+    >>= λ v. Ok (net_surface net r.texts.texts u.0 v.0, v.1)
+at_stage (stages.Vknots net) r ts = knots_left r.vknots ts
+    >>= λ v. Ok (net_surface net r.texts.texts (record { texts = r.uknots.texts; counts = r.uknots.counts }) v.0, v.1)
 
 -- What is left to read.
 abbrev pub part_left : PartReader → List Token → Read Part

@@ -7,9 +7,11 @@ use Rattle.surface_tables.specs.Counts.{per_pole, plain_size, swept_size, wrap_s
 use Rattle.surface_tables.specs.declared.parts.Wrap.{Wrap}
 use Rattle.surface_tables.specs.declared.parts.Wrap.TheVariants.{Trimmed, Offset}
 use Rattle.surface_tables.specs.declared.surface.SurfaceFlags.{SurfaceFlags}
-use Rattle.surface_tables.specs.declared.surface.Surface.{Surface, Plain, Swept, Bezier, BSpline, Trimmed', Offset', Row_of-Surface, end_of-Surface, more_of-Surface}
+use Rattle.surface_tables.specs.declared.surface.Surface.{Surface, Plain, Swept, Bezier, BSpline, Trimmed', Offset'}
+use Rattle.surface_tables.specs.declared.surface.Surface.{Row_of-Surface, end_of-Surface, more_of-Surface}
 
--- ---- each list is as long as the code, the flags and the counts say, and knots and multiplicities of one direction are equally many
+-- ---- each list is as long as the code, the flags and the counts say, and knots and multiplicities of one direction
+-- are equally many
 
 pub record CanSpellPlain (code : ℕ) (texts : List (List ℕ)) : Type 0 where
   pub from : 1 ≤ code
@@ -23,9 +25,11 @@ pub record CanSpellSwept (code : ℕ) (texts : List (List ℕ)) (curve : Curve3)
   pub inner : CanSpell3 curve
 
 abbrev pub CanSpellBezier : Bool → Bool → ℕ → ℕ → List (List ℕ) → Type 0
-CanSpellBezier urational vrational udegree vdegree poles = AreTexts (bezier_poles udegree vdegree * per_pole urational vrational) poles
+CanSpellBezier urational vrational udegree vdegree poles =
+    AreTexts (bezier_poles udegree vdegree * per_pole urational vrational) poles
 
-pub record CanSpellBSpline (flags : SurfaceFlags) (upoles vpoles : ℕ) (poles uknots : List (List ℕ)) (umult : List ℕ) (vknots : List (List ℕ)) (vmult : List ℕ) : Type 0 where
+pub record CanSpellBSpline (flags : SurfaceFlags) (upoles vpoles : ℕ) (poles uknots : List (List ℕ)) (umult : List ℕ)
+    (vknots : List (List ℕ)) (vmult : List ℕ) : Type 0 where
   pub decimals : AreTexts (upoles * vpoles * per_pole flags.urational flags.vrational) poles
   pub u : AreTexts (length umult) uknots
   pub v : AreTexts (length vmult) vknots
@@ -37,8 +41,10 @@ abbrev mutual
   pub CanSpellSurface : Surface → Type 0
   CanSpellSurface (Plain code texts) = CanSpellPlain code texts
   CanSpellSurface (Swept code texts curve) = CanSpellSwept code texts curve
-  CanSpellSurface (Bezier urational vrational udegree vdegree poles) = CanSpellBezier urational vrational udegree vdegree poles
-  CanSpellSurface (BSpline flags udegree vdegree upoles vpoles poles uknots umult vknots vmult) = CanSpellBSpline flags upoles vpoles poles uknots umult vknots vmult
+  CanSpellSurface (Bezier urational vrational udegree vdegree poles) =
+      CanSpellBezier urational vrational udegree vdegree poles
+  CanSpellSurface (BSpline flags udegree vdegree upoles vpoles poles uknots umult vknots vmult) =
+      CanSpellBSpline flags upoles vpoles poles uknots umult vknots vmult
   CanSpellSurface (Trimmed' texts place basis) = CanSpellWrapped Trimmed texts × CanSpellBasis basis
   CanSpellSurface (Offset' texts place basis) = CanSpellWrapped Offset texts × CanSpellBasis basis
 

@@ -8,7 +8,8 @@ use Rattle.surface_tables.specs.Counts.{per_pole, plain_size, swept_size, wrap_s
 use Rattle.surface_tables.specs.declared.parts.Wrap.{Wrap}
 use Rattle.surface_tables.specs.declared.parts.Wrap.TheVariants.{Trimmed, Offset}
 use Rattle.surface_tables.specs.declared.surface.SurfaceFlags.{SurfaceFlags}
-use Rattle.surface_tables.specs.declared.surface.Surface.{Surface, Plain, Swept, Bezier, BSpline, Trimmed', Offset', Row_of-Surface, end_of-Surface, more_of-Surface}
+use Rattle.surface_tables.specs.declared.surface.Surface.{Surface, Plain, Swept, Bezier, BSpline, Trimmed', Offset'}
+use Rattle.surface_tables.specs.declared.surface.Surface.{Row_of-Surface, end_of-Surface, more_of-Surface}
 
 -- ---- the numbers and knots of a B-spline surface
 
@@ -24,7 +25,8 @@ pub record AreKnotsOf (knots : List (List ℕ)) (multiplicities : List ℕ) : Ty
   pub small : IsSmall (length knots)
   pub pairs : AreKnots (length knots) (record { texts = knots; counts = multiplicities })
 
--- ---- a surface whose code stands inside so many others: at most 64 are open, each list is as long as the code, the flags and the
+-- ---- a surface whose code stands inside so many others: at most 64 are open, each list is as long as the code, the
+-- flags and the
 -- counts say, each text is a decimal, each number has at most 18 digits, and so has the number of poles
 
 module _ (nest : ℕ) where
@@ -49,7 +51,8 @@ module _ (nest : ℕ) where
     pub poles_small : IsSmall (bezier_poles udegree vdegree)
     pub decimals : AreDecimals (bezier_poles udegree vdegree * per_pole urational vrational) poles
 
-  pub record IsBSpline (flags : SurfaceFlags) (udegree vdegree upoles vpoles : ℕ) (poles uknots : List (List ℕ)) (umult : List ℕ) (vknots : List (List ℕ)) (vmult : List ℕ) : Type 0 where
+  pub record IsBSpline (flags : SurfaceFlags) (udegree vdegree upoles vpoles : ℕ) (poles uknots : List (List ℕ))
+      (umult : List ℕ) (vknots : List (List ℕ)) (vmult : List ℕ) : Type 0 where
     pub nested : nest < 64
     pub numbers : AreNumbers udegree vdegree upoles vpoles
     pub decimals : AreDecimals (upoles * vpoles * per_pole flags.urational flags.vrational) poles
@@ -66,8 +69,10 @@ abbrev mutual
   pub IsSoundIn : ℕ → Surface → Type 0
   IsSoundIn nest (Plain code texts) = IsPlain nest code texts
   IsSoundIn nest (Swept code texts curve) = IsSwept nest code texts curve
-  IsSoundIn nest (Bezier urational vrational udegree vdegree poles) = IsBezier nest urational vrational udegree vdegree poles
-  IsSoundIn nest (BSpline flags udegree vdegree upoles vpoles poles uknots umult vknots vmult) = IsBSpline nest flags udegree vdegree upoles vpoles poles uknots umult vknots vmult
+  IsSoundIn nest (Bezier urational vrational udegree vdegree poles) =
+      IsBezier nest urational vrational udegree vdegree poles
+  IsSoundIn nest (BSpline flags udegree vdegree upoles vpoles poles uknots umult vknots vmult) =
+      IsBSpline nest flags udegree vdegree upoles vpoles poles uknots umult vknots vmult
   IsSoundIn nest (Trimmed' texts place basis) = IsWrapped nest Trimmed texts × IsSoundBasis (suc nest) basis
   IsSoundIn nest (Offset' texts place basis) = IsWrapped nest Offset texts × IsSoundBasis (suc nest) basis
 

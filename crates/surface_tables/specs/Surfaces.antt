@@ -19,14 +19,19 @@ use Rattle.surface_tables.specs.declared.surface.Surface.{Surface}
 use Rattle.surface_tables.specs.declared.surface.Surface.TheVariants as surfaces
 
 abbrev pub net_surface : Net → List (List ℕ) → Knots → Knots → Part
-net_surface net poles u v = parts.Leaf (surfaces.BSpline net.flags net.udegree net.vdegree net.upoles net.vpoles poles u.texts u.counts v.texts v.counts)
+net_surface net poles u v =
+    parts.Leaf (surfaces.BSpline net.flags net.udegree net.vdegree net.upoles net.vpoles poles u.texts u.counts
+    v.texts v.counts)
 
 -- what follows the decimals, where so many codes are open
 abbrev pub after_texts : ℕ → Form → List (List ℕ) → List Token → Read Part
 after_texts nest (forms.Plain code) texts ts = Ok (parts.Leaf (surfaces.Plain code texts), ts)
-after_texts nest (forms.Swept code) texts ts = curve3_at nest ts >>= λ c. Ok (parts.Leaf (surfaces.Swept code texts c.0), c.1)
-after_texts nest (forms.Bezier urational vrational udegree vdegree) texts ts = Ok (parts.Leaf (surfaces.Bezier urational vrational udegree vdegree texts), ts)
-after_texts nest (forms.BSpline net uknots vknots) texts ts = knots_at uknots ts >>= λ u. knots_at vknots u.1 >>= λ v. Ok (net_surface net texts u.0 v.0, v.1)
+after_texts nest (forms.Swept code) texts ts = curve3_at nest ts
+    >>= λ c. Ok (parts.Leaf (surfaces.Swept code texts c.0), c.1)
+after_texts nest (forms.Bezier urational vrational udegree vdegree) texts ts =
+    Ok (parts.Leaf (surfaces.Bezier urational vrational udegree vdegree texts), ts)
+after_texts nest (forms.BSpline net uknots vknots) texts ts = knots_at uknots ts >>= λ u. knots_at vknots u.1
+    >>= λ v. Ok (net_surface net texts u.0 v.0, v.1)
 after_texts nest (forms.Around wrap) texts ts = Ok (parts.Open (record { wrap = wrap; texts = texts }), ts)
 
 abbrev pub body_at : ℕ → Body → List Token → Read Part

@@ -1,5 +1,6 @@
 //! The numbers in front of the decimals of a Bezier or a B-spline surface.
 ghost use Rattle.surface_tables.specs.HeaderLeft.{GoesTo, bezier_left, counts_left, flags_left};
+ghost use Rattle.surface_tables.specs.declared.header.SplineCounts.TheVariants as counts;
 
 use crate::counts::{pole_size, vdegree_due, vpoles_due};
 use crate::parts::{Body, Form, Net};
@@ -7,7 +8,8 @@ use crate::surface::SurfaceFlags;
 use brep_tokens::{ReadFault, Token};
 use entry_readers::{flag_due, number_due};
 
-/// Which number of a Bezier surface is due, with those that were taken. Its poles stand in one row more than its u degree.
+/// Which number of a Bezier surface is due, with those that were taken. Its poles stand in one row more than its u
+/// degree.
 #[derive(Clone, Copy)]
 pub enum BezierHeader {
     Urational,
@@ -165,6 +167,41 @@ pub fn flags_step(header: SplineFlags, t: &Token) -> Result<HeaderStep, ReadFaul
     Ok(HeaderStep::Flags(next))
 }
 
+/// Takes the number of v poles, with which the number of decimals is known.
+fn vpoles_step(
+    flags: SurfaceFlags,
+    udegree: u64,
+    vdegree: u64,
+    upoles: u64,
+    t: &Token,
+) -> Result<HeaderStep, ReadFault>
+    ensures { GoesTo (counts_left (counts.Vpoles flags udegree vdegree upoles)) t.now result }
+{
+    let vpoles = vpoles_due(upoles, t)?;
+    let decimals = upoles * vpoles * pole_size(flags.urational, flags.vrational);
+    let net = Net {
+        flags,
+        udegree,
+        vdegree,
+        upoles,
+        vpoles,
+    };
+    Ok(HeaderStep::Counts(SplineCounts::Uknots { net, decimals }))
+}
+
+/// Takes the number of v knots, the last one in front of the decimals.
+fn vknots_step(net: Net, decimals: u64, uknots: u64, t: &Token) -> Result<HeaderStep, ReadFault>
+    ensures { GoesTo (counts_left (counts.Vknots net decimals uknots)) t.now result }
+{
+    let vknots = number_due(t)?;
+    let form = Form::BSpline {
+        net,
+        uknots,
+        vknots,
+    };
+    Ok(HeaderStep::Whole(Body { form, decimals }))
+}
+
 /// Takes a number of a B-spline surface.
 pub fn counts_step(header: SplineCounts, t: &Token) -> Result<HeaderStep, ReadFault>
     ensures { GoesTo (counts_left header) t.now result }
@@ -194,18 +231,7 @@ pub fn counts_step(header: SplineCounts, t: &Token) -> Result<HeaderStep, ReadFa
             udegree,
             vdegree,
             upoles,
-        } => {
-            let vpoles = vpoles_due(upoles, t)?;
-            let decimals = upoles * vpoles * pole_size(flags.urational, flags.vrational);
-            let net = Net {
-                flags,
-                udegree,
-                vdegree,
-                upoles,
-                vpoles,
-            };
-            SplineCounts::Uknots { net, decimals }
-        }
+        } => return vpoles_step(flags, udegree, vdegree, upoles, t),
         SplineCounts::Uknots { net, decimals } => SplineCounts::Vknots {
             net,
             decimals,
@@ -215,15 +241,7 @@ pub fn counts_step(header: SplineCounts, t: &Token) -> Result<HeaderStep, ReadFa
             net,
             decimals,
             uknots,
-        } => {
-            let vknots = number_due(t)?;
-            let form = Form::BSpline {
-                net,
-                uknots,
-                vknots,
-            };
-            return Ok(HeaderStep::Whole(Body { form, decimals }));
-        }
+        } => return vknots_step(net, decimals, uknots, t),
     };
     Ok(HeaderStep::Counts(next))
 }

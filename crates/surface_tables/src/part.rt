@@ -4,7 +4,8 @@ ghost use Rattle.brep_tokens.specs.declared.text.Token.{Token};
 ghost use Rattle.curve_tables.specs.Left.{IsWaiting3};
 ghost use Rattle.surface_tables.specs.Bodies.{body_of};
 ghost use Rattle.surface_tables.specs.Headers.{is_code};
-ghost use Rattle.surface_tables.specs.PartLeft.{AnswersCode, Settles, StepsPart, TakesPart, Waits, at_stage, first_left, header_left, part_left};
+ghost use Rattle.surface_tables.specs.PartLeft.{AnswersCode, Settles, StepsPart, TakesPart, Waits, at_stage};
+ghost use Rattle.surface_tables.specs.PartLeft.{first_left, form_at, header_left, part_left};
 ghost use Rattle.surface_tables.specs.Surfaces.{body_at, part_at};
 ghost use Rattle.surface_tables.specs.declared.part.Stage.TheVariants as stages;
 ghost use Rattle.surface_tables.specs.declared.parts.Form.TheVariants as forms;
@@ -193,7 +194,7 @@ impl PartReader {
     /// The decimals of a form are due.
     fn expect(&mut self, form: Form, decimals: u64) -> Option<Part>
         requires { self.old.nest < 64 }
-        ensures part { Settles (body_at (self.old.nest + 1) (record { form = form; decimals = decimals })) self.new result }
+        ensures part { Settles (form_at (self.old.nest + 1) form decimals) self.new result }
         ensures nest { self.new.nest ≡ self.old.nest }
     {
         self.texts = DecimalsDue::new(self.alloc, decimals);

@@ -1,12 +1,12 @@
 //! The tokens of a surface up to its basis, one after another.
-ghost use Rattle.std.specs.Prelude.{◌≡◌, ◌∷◌, ◌++◌, length};
+ghost use Rattle.std.specs.Prelude.{◌≡◌, ◌∷◌, ◌++◌};
 ghost use Rattle.std.specs.Fmt.{decimal};
 ghost use Rattle.brep_tokens.specs.Forms.{flag_text};
-ghost use Rattle.entry_readers.specs.Begins.{zipped};
 ghost use Rattle.entry_readers.specs.Spelled.{AreShort, CanPair, pairs_left};
 ghost use Rattle.curve_tables.specs.Shapes.{CanSpell3};
 ghost use Rattle.curve_tables.specs.Spelling.{spelling3};
-ghost use Rattle.surface_tables.specs.SpellLeft.{CanGivePart, part_left};
+ghost use Rattle.surface_tables.specs.SpellLeft.{CanGivePart, part_left, spell_net};
+ghost use Rattle.surface_tables.specs.Spelling.{spell_bezier};
 
 use crate::parts::Net;
 use brep_tokens::{Decimals, TokenText};
@@ -78,7 +78,7 @@ pub fn bezier<'a>(
     poles: &'a Decimals,
 ) -> PartSpell<'a>
     requires { AreShort poles.now }
-    ensures left { part_left result ≡ decimal 8 ∷ flag_text flags.0 ∷ flag_text flags.1 ∷ decimal udegree ∷ decimal vdegree ∷ poles.now }
+    ensures left { part_left result ≡ spell_bezier flags.0 flags.1 udegree vdegree poles.now }
     ensures can { CanGivePart result }
 {
     let (urational, vrational) = (flag_number(flags.0), flag_number(flags.1));
@@ -105,9 +105,8 @@ pub fn spline<'a>(
     requires poles { AreShort poles.now }
     requires u { CanPair u }
     requires v { CanPair v }
-    ensures left { part_left result ≡ decimal 9 ∷ flag_text net.flags.urational ∷ flag_text net.flags.vrational ∷ flag_text net.flags.uflag ∷ flag_text net.flags.vflag
-        ∷ decimal net.udegree ∷ decimal net.vdegree ∷ decimal net.upoles ∷ decimal net.vpoles ∷ decimal counts.0 ∷ decimal counts.1
-        ∷ (poles.now ++ (pairs_left u.entry ++ pairs_left v.entry)) }
+    ensures left { part_left result ≡ spell_net net counts.0 counts.1
+        ++ (poles.now ++ (pairs_left u.entry ++ pairs_left v.entry)) }
     ensures can { CanGivePart result }
 {
     let header = [

@@ -1,13 +1,13 @@
 //! The reader of a surface.
-ghost use Rattle.std.specs.Prelude.{◌≡◌, ◌<◌, Err, IfOk, List, None, Ok, []};
-ghost use Rattle.brep_tokens.specs.declared.text.Token.{Token};
+ghost use Rattle.std.specs.Prelude.{◌≡◌, ◌<◌, Err, IfOk, None, []};
 ghost use Rattle.entry_readers.specs.Reading.{more};
-ghost use Rattle.entry_readers.specs.Takes.{Takes};
-ghost use Rattle.surface_tables.specs.Left.{Closes, IsDone, IsWaiting, closing, surface_left};
+ghost use Rattle.entry_readers.specs.Takes.{HasRead, ReadsAs};
+ghost use Rattle.surface_tables.specs.Left.{Closes, IsDone, IsWaiting, TakesSurface, closing, surface_left};
 ghost use Rattle.surface_tables.specs.Surfaces.{surface_at};
+ghost use Rattle.surface_tables.specs.declared.parts.Part.TheVariants as parts;
 
 use crate::part::PartReader;
-use crate::parts::{Frames, Part};
+use crate::parts::{Frame, Frames, Part};
 use crate::surface::{Surface, framed};
 use brep_tokens::{Progress, ReadStop, Token};
 use entry_readers::EntryReader;
@@ -25,7 +25,7 @@ pub struct SurfaceReader {
 impl SurfaceReader {
     /// No token was taken yet.
     pub fn new(alloc: Global) -> SurfaceReader
-        ensures left { (ts : List Token) → surface_left result ts ≡ surface_at ts }
+        ensures left { ReadsAs (surface_left result) surface_at }
         ensures waits { IsWaiting result }
         ensures open { surface_left result [] ≡ Err more }
     {
@@ -44,22 +44,35 @@ impl SurfaceReader {
         ensures { IfOk result (λ p. Closes (closing self.old part) self.new p) }
     {
         match part {
-            Part::Leaf(surface) => {
-                self.whole = Some(framed(self.alloc, &mut self.frames, surface)?);
-                Ok(Progress::Whole)
-            }
-            Part::Open(frame) => {
-                self.frames.push(frame)?;
-                self.part = PartReader::new(self.alloc, self.part.nest + 1);
-                Ok(Progress::More)
-            }
+            Part::Leaf(surface) => self.end(surface),
+            Part::Open(frame) => self.enter(frame),
         }
+    }
+
+    /// The surface is whole: it stands in the frames.
+    fn end(&mut self, leaf: Surface) -> Result<Progress, AllocError>
+        requires { self.old.whole ≡ None }
+        ensures { IfOk result (λ p. Closes (closing self.old (parts.Leaf leaf)) self.new p) }
+    {
+        self.whole = Some(framed(self.alloc, &mut self.frames, leaf)?);
+        Ok(Progress::Whole)
+    }
+
+    /// The frame is whole: a code is due in it.
+    fn enter(&mut self, frame: Frame) -> Result<Progress, AllocError>
+        requires nested { self.old.part.nest < 64 }
+        requires none { self.old.whole ≡ None }
+        ensures { IfOk result (λ p. Closes (closing self.old (parts.Open frame)) self.new p) }
+    {
+        self.frames.push(frame)?;
+        self.part = PartReader::new(self.alloc, self.part.nest + 1);
+        Ok(Progress::More)
     }
 
     /// Takes a token: it is the first one that isn't accepted, or more are due, or the surface is whole with it.
     pub fn take(&mut self, t: &Token) -> Result<Progress, ReadStop>
         requires { IsWaiting self.old }
-        ensures { Takes (surface_left self.old) t.now (surface_left self.new) (IsWaiting self.new) (IsDone self.new) result }
+        ensures { TakesSurface self.old t.now self.new result }
     {
         match self.part.take(t) {
             Err(e) => Err(e),
@@ -74,7 +87,7 @@ impl SurfaceReader {
     /// The surface.
     pub fn done(self) -> Surface
         requires { IsDone self }
-        ensures { (rest : List Token) → surface_left self rest ≡ Ok (result, rest) }
+        ensures { HasRead (surface_left self) result }
     {
         let SurfaceReader { whole, .. } = self;
         match whole {

@@ -8,7 +8,8 @@ use curve_tables::Curve3;
 use sqlite_items::Boxed;
 use std::alloc::{AllocError, Global};
 
-/// The flags of a B-spline surface, each for the direction u or v: `urational` and `vrational` say that each pole has a weight.
+/// The flags of a B-spline surface, each for the direction u or v: `urational` and `vrational` say that each pole has a
+/// weight.
 #[derive(Clone, Copy)]
 pub struct SurfaceFlags {
     pub urational: bool,
@@ -39,7 +40,8 @@ pub enum Surface {
         vdegree: u64,
         poles: Decimals,
     },
-    /// Code 9. Each of the upoles times vpoles poles is 3 decimals, and a weight where the surface is rational in either direction.
+    /// Code 9. Each of the upoles times vpoles poles is 3 decimals, and a weight where the surface is rational in
+    /// either direction.
     BSpline {
         flags: SurfaceFlags,
         udegree: u64,

@@ -1,6 +1,7 @@
 -- The section that is written: its datums and the further words, and the place of each word in it.
 use Rattle.std.proofs.Common.{◌≡◌, ◌≤◌, ◌<◌, ◌+◌, ◌-◌, refl, sym, ◌∙◌, ap, subst, arith, inl, inr}
-use Rattle.std.specs.Prelude.{ℕ, zero, suc, ℤ, pos, Bool, true, false, if◌then◌else◌, List, [], ◌∷◌, ◌++◌, length, map, slice_get, unwrap_or, Option, Some, None, Contains}
+use Rattle.std.specs.Prelude.{ℕ, zero, suc, ℤ, pos, Bool, true, false, if◌then◌else◌, List, [], ◌∷◌, ◌++◌, length, map}
+use Rattle.std.specs.Prelude.{slice_get, unwrap_or, Option, Some, None, Contains}
 use Rattle.std.specs.List.{AllByRecursion}
 use Rattle.std.specs.Cmp.{signed_Decides}
 use Rattle.std.specs.Ordering.{int_eq}
@@ -25,7 +26,8 @@ use Rattle.written_locations.proofs.Numbers.{place-has, place-within, fixed-numb
 -- ---- lists
 get-after : {X : Type 0} (xs ys : List X) (i : ℕ) → slice_get (xs ++ ys) (length xs + i) ≡ slice_get ys i
 get-after [] ys i = (let e : 0 + i ≡ i = omega arith in ap (slice_get ys) e)
-get-after (x ∷ xs) ys i = (let e : length (x ∷ xs) + i ≡ suc (length xs + i) = omega arith in ap (slice_get (x ∷ (xs ++ ys))) e ∙ get-after xs ys i)
+get-after (x ∷ xs) ys i = (let e : length (x ∷ xs) + i ≡ suc (length xs + i) = omega arith in
+    ap (slice_get (x ∷ (xs ++ ys))) e ∙ get-after xs ys i)
 
 get-before : {X : Type 0} (xs ys : List X) (i : ℕ) (x : X) → slice_get xs i ≡ Some x → slice_get (xs ++ ys) i ≡ Some x
 get-before [] ys i x e = absurd cc
@@ -46,26 +48,31 @@ datum-at from (suc n) (suc i) lt =
     rest ∙ ap (λ d. Some (datum_word d)) e
 
 -- ---- datums of a sound section
-datums-after : (before entries : List LocationEntry) → AreSoundAfter before entries → AllByRecursion (AreDecimals 12) (datums_of entries)
+datums-after : (before entries : List LocationEntry) → AreSoundAfter before entries
+    → AllByRecursion (AreDecimals 12) (datums_of entries)
 datums-after before [] sound = tt
 datums-after before (Datum texts ∷ entries) sound = (sound.0, datums-after (before ++ Datum texts ∷ []) entries sound.1)
 datums-after before (Product factors ∷ entries) sound = datums-after (before ++ Product factors ∷ []) entries sound.1
 
-pub datums-sound : (entries : List LocationEntry) → AreSoundLocations entries → AllByRecursion (AreDecimals 12) (datums_of entries)
+pub datums-sound : (entries : List LocationEntry) → AreSoundLocations entries
+    → AllByRecursion (AreDecimals 12) (datums_of entries)
 datums-sound entries sound = datums-after [] entries sound
 
 -- ---- the places of a written section
-pub length-written : (datums : List (List (List ℕ))) (further : List Word) → length (written_section datums further) ≡ length datums + length further
+pub length-written : (datums : List (List (List ℕ))) (further : List Word)
+    → length (written_section datums further) ≡ length datums + length further
 length-written datums further =
     let both = length-append (map Datum datums) (map product_of further) in
     let a = length-map datums Datum in let b = length-map further product_of in
     omega (arith, both, a, b)
 
-module _ (law : WrittenIsHeld) (datums : List (List (List ℕ))) (further : List Word) (over : AllByRecursion (IsWordOver (length datums)) further) where
+module _ (law : WrittenIsHeld) (datums : List (List (List ℕ))) (further : List Word)
+    (over : AllByRecursion (IsWordOver (length datums)) further) where
   abbrev place_words : List Word
   place_words = [] ∷ (datum_words 0 (length datums) ++ further)
 
-  at-place : (k : ℕ) (w : Word) → slice_get place_words k ≡ Some w → word_of_place (written_section datums further) k ≡ w
+  at-place : (k : ℕ) (w : Word) → slice_get place_words k ≡ Some w
+      → word_of_place (written_section datums further) k ≡ w
   at-place k w e =
       ap (λ l. at_place l k) (law.words datums further over)
       ∙ sym (unwrap_or-slice_get place_words k [])
@@ -75,10 +82,12 @@ module _ (law : WrittenIsHeld) (datums : List (List (List ℕ))) (further : List
   datum-place zero low high = absurd (omega (arith, low))
   datum-place (suc i) low high =
       let e : suc (0 + i) ≡ suc i = omega arith in
-      get-before (datum_words 0 (length datums)) further i (datum_word (suc (0 + i))) (datum-at 0 (length datums) i (omega (arith, high)))
+      get-before (datum_words 0 (length datums)) further i (datum_word (suc (0 + i)))
+      (datum-at 0 (length datums) i (omega (arith, high)))
       ∙ ap (λ d. Some (datum_word d)) e
 
-  further-place : (w : Word) (k : ℕ) → place_in further w ≡ k → Contains further w → slice_get place_words (length datums + k) ≡ Some w
+  further-place : (w : Word) (k : ℕ) → place_in further w ≡ k → Contains further w
+      → slice_get place_words (length datums + k) ≡ Some w
   further-place w zero e m = (let low = (place-within further w m).0 in absurd (omega (arith, low, e)))
   further-place w (suc k) e m =
       let long = length-datum_words 0 (length datums) in
@@ -88,7 +97,8 @@ module _ (law : WrittenIsHeld) (datums : List (List (List ℕ))) (further : List
       ∙ ap (slice_get ([] ∷ further)) (sym e)
       ∙ place-has [] further w m
 
-  open-place : (w : Word) → fixed_number w ≡ None → Contains further w → word_of_place (written_section datums further) (number_of_word (length datums) further w) ≡ w
+  open-place : (w : Word) → fixed_number w ≡ None → Contains further w
+      → word_of_place (written_section datums further) (number_of_word (length datums) further w) ≡ w
   open-place w e m =
       ap (word_of_place (written_section datums further)) (open-number (length datums) further w e)
       ∙ at-place (length datums + place_in further w) w (further-place w (place_in further w) refl m)
@@ -106,15 +116,18 @@ module _ (law : WrittenIsHeld) (datums : List (List (List ℕ))) (further : List
       ∙ at-place p.datum (datum_word p.datum) (datum-place p.datum range.0 range.1)
       ∙ (λ i. record { datum = p.datum; power = sym one i } ∷ [])))
       (λ e.
-      (let none : fixed_number (p ∷ []) ≡ None = ap (λ b. if b then Some p.datum else None) e in open-place (p ∷ []) none (has none)))
+      (let none : fixed_number (p ∷ []) ≡ None = ap (λ b. if b then Some p.datum else None) e in
+      open-place (p ∷ []) none (has none)))
   place-of_word (p ∷ q ∷ w) is has = open-place (p ∷ q ∷ w) refl (has refl)
 
   -- and it is a place of the section
   pub place-within_section : (w : Word) → IsWordOver (length datums) w → (fixed_number w ≡ None → Contains further w) →
       number_of_word (length datums) further w ≤ length (written_section datums further)
   place-within_section w is has = by_fixed (fixed_number w)
-      (λ k e. (let n = fixed-number (length datums) further w k e in let low = fixed-few w is k e in let long = length-written datums further in omega (arith, n, low, long)))
-      (λ e. (let n = open-number (length datums) further w e in let high = (place-within further w (has e)).1 in let long = length-written datums further in omega (arith, n, high, long)))
+      (λ k e. (let n = fixed-number (length datums) further w k e in let low = fixed-few w is k e in let long =
+      length-written datums further in omega (arith, n, low, long)))
+      (λ e. (let n = open-number (length datums) further w e in let high = (place-within further w (has e)).1 in
+      let long = length-written datums further in omega (arith, n, high, long)))
     where
       fixed-few : (v : Word) → IsWordOver (length datums) v → (k : ℕ) → fixed_number v ≡ Some k → k ≤ length datums
       fixed-few [] over_it k e = (let z : 0 ≡ k = some-same e in omega (arith, z))
@@ -126,7 +139,8 @@ module _ (law : WrittenIsHeld) (datums : List (List (List ℕ))) (further : List
           (let fixed : fixed_number (p ∷ []) ≡ Some p.datum = ap (λ b. if b then Some p.datum else None) t in
           let same : p.datum ≡ k = ap (λ o. unwrap_or o 0) (sym fixed ∙ e) in
           let high = over_it.over.0.1 in omega (arith, same, high)))
-          (λ t. (let none : fixed_number (p ∷ []) ≡ None = ap (λ b. if b then Some p.datum else None) t in absurd (some-none e none)))
+          (λ t. (let none : fixed_number (p ∷ []) ≡ None = ap (λ b. if b then Some p.datum else None) t in
+          absurd (some-none e none)))
       fixed-few (p ∷ q ∷ v) over_it k e = absurd (some-none e refl)
 
 pub numbers_are_places : WrittenIsHeld → NumbersArePlaces

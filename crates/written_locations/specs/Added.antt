@@ -1,5 +1,6 @@
 -- The numbers of the places of a section that have been added so far.
-use Rattle.std.specs.Prelude.{◌≡◌, ◌⊎◌, ◌+◌, ◌≤◌, ℕ, List, [], ◌∷◌, drop, fold, length, map, slice_index, Contains, Option, None}
+use Rattle.std.specs.Prelude.{◌≡◌, ◌⊎◌, ◌+◌, ◌≤◌, ℕ, List, [], ◌∷◌, drop, fold, length, map, slice_index, Contains}
+use Rattle.std.specs.Prelude.{Option, None}
 use Rattle.lists.specs.Distinct.{IsDistinct}
 use Rattle.location_words.specs.declared.pair.Pair.{Pair}
 use Rattle.location_table.specs.Held.{most_entries}
@@ -29,7 +30,16 @@ pub record IsAdded (s : WrittenLocations) (place : ℕ) : Type 0 where
   pub number : slice_index s.numbers.items place ≡ number_at s (word_at s place)
   pub held : fixed_number (word_at s place) ≡ None → Contains (further_of s) (word_at s place)
 
--- A number for each place: 0 stands for one that wasn't added yet. The further words are different words of places, which have no
+-- the place's word is a further word, unless its number is fixed
+abbrev pub HoldsWord : WrittenLocations → ℕ → Type 0
+HoldsWord s place = fixed_number (word_at s place) ≡ None → Contains (further_of s) (word_at s place)
+
+-- the further words are those before, and the place's word where it is a new one
+abbrev pub AddsWord : ℕ → WrittenLocations → WrittenLocations → Type 0
+AddsWord place old new = further_of new ≡ with_word (further_of old) (word_of_place old.section.now place)
+
+-- A number for each place: 0 stands for one that wasn't added yet. The further words are different words of places,
+-- which have no
 -- number of their own.
 pub record IsNumbering (s : WrittenLocations) : Type 0 where
   pub few : length s.section.now ≤ most_entries

@@ -12,30 +12,44 @@ use Rattle.written_locations.specs.declared.written.WrittenLocations.{WrittenLoc
 use Rattle.written_locations.specs.Added.{Adds, IsNumbering, further_of}
 use Rattle.written_locations.specs.Further.{fixed_number, further_words, number_of_word}
 
--- A section has no more datums than entries; in a sound one they are decimals; and the word of each place is among its words.
+-- A section has no more datums than entries; in a sound one they are decimals; and the word of each place is among its
+-- words.
 pub record SectionsHold : Type 0 where
   pub few_datums : (entries : List LocationEntry) → length (datums_of entries) ≤ length entries
-  pub datums : (entries : List LocationEntry) → AreSoundLocations entries → AllByRecursion (AreDecimals 12) (datums_of entries)
-  pub word : (entries : List LocationEntry) (place : ℕ) → place ≤ length entries → Contains (words_of entries) (word_of_place entries place)
+  pub datums : (entries : List LocationEntry) → AreSoundLocations entries
+      → AllByRecursion (AreDecimals 12) (datums_of entries)
+  pub word : (entries : List LocationEntry) (place : ℕ) → place ≤ length entries
+      → Contains (words_of entries) (word_of_place entries place)
 
--- The further words of a list are those of its words that have no number of their own, each once; with its datums, they are no more
+-- The further words of a list are those of its words that have no number of their own, each once; with its datums, they
+-- are no more
 -- than a section's entries.
 pub record FurtherWordsAreDue : Type 0 where
-  pub found : (ws : List (List Pair)) (w : List Pair) → Contains ws w → fixed_number w ≡ None → Contains (further_words ws) w
-  pub from : (ws : List (List Pair)) (w : List Pair) → Contains (further_words ws) w → Contains ws w × (fixed_number w ≡ None)
+  pub found : (ws : List (List Pair)) (w : List Pair) → Contains ws w → fixed_number w ≡ None
+      → Contains (further_words ws) w
+  pub from : (ws : List (List Pair)) (w : List Pair) → Contains (further_words ws) w
+      → Contains ws w × (fixed_number w ≡ None)
   pub distinct : (ws : List (List Pair)) → IsDistinct (further_words ws)
   pub few : (entries : List LocationEntry) (further : List (List Pair)) → IsDistinct further
-      → ((w : List Pair) → Contains further w → Contains (words_of entries) w × (fixed_number w ≡ None)) → length (datums_of entries) + length further ≤ length entries
+      → ((w : List Pair) → Contains further w → Contains (words_of entries) w × (fixed_number w ≡ None))
+      → length (datums_of entries) + length further ≤ length entries
 
 -- The number of a word that is written is a place of the written section, and that place has this very word.
 pub record NumbersArePlaces : Type 0 where
-  pub size : (datums : List (List (List ℕ))) (further : List (List Pair)) → length (written_section datums further) ≡ length datums + length further
-  pub within : (datums : List (List (List ℕ))) (further : List (List Pair)) → AllByRecursion (IsWordOver (length datums)) further → (w : List Pair) → IsWordOver (length datums) w
-      → (fixed_number w ≡ None → Contains further w) → number_of_word (length datums) further w ≤ length (written_section datums further)
-  pub word : (datums : List (List (List ℕ))) (further : List (List Pair)) → AllByRecursion (IsWordOver (length datums)) further → (w : List Pair) → IsWordOver (length datums) w
-      → (fixed_number w ≡ None → Contains further w) → word_of_place (written_section datums further) (number_of_word (length datums) further w) ≡ w
+  pub size : (datums : List (List (List ℕ))) (further : List (List Pair))
+      → length (written_section datums further) ≡ length datums + length further
+  pub within : (datums : List (List (List ℕ))) (further : List (List Pair))
+      → AllByRecursion (IsWordOver (length datums)) further → (w : List Pair) → IsWordOver (length datums) w
+      → (fixed_number w ≡ None → Contains further w)
+      → number_of_word (length datums) further w ≤ length (written_section datums further)
+  pub word : (datums : List (List (List ℕ))) (further : List (List Pair))
+      → AllByRecursion (IsWordOver (length datums)) further → (w : List Pair) → IsWordOver (length datums) w
+      → (fixed_number w ≡ None → Contains further w)
+      → word_of_place (written_section datums further) (number_of_word (length datums) further w) ≡ w
 
--- What is added in two parts is added as one list; and the further words are no more than the words of the section's places.
+-- What is added in two parts is added as one list; and the further words are no more than the words of the section's
+-- places.
 pub record AddedPartsJoin : Type 0 where
-  pub joined : (first others : List ℕ) (s t u : WrittenLocations) → Adds first s t → Adds others t u → Adds (first ++ others) s u
+  pub joined : (first others : List ℕ) (s t u : WrittenLocations) → Adds first s t → Adds others t u
+      → Adds (first ++ others) s u
   pub few_further : (s : WrittenLocations) → IsNumbering s → length (further_of s) ≤ suc (length s.section.now)

@@ -1,4 +1,5 @@
-//! The locations of a file that is written: its datums, and each further word once, in the order in which they first occur.
+//! The locations of a file that is written: its datums, and each further word once, in the order in which they first
+//! occur.
 #![tactic(auto)]
 
 pub mod laws;

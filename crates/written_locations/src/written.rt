@@ -3,14 +3,15 @@ ghost use Rattle.std.specs.Prelude.{◌≡◌, ◌<◌, ◌≤◌, ℕ, [], ◌�
 ghost use Rattle.location_table.specs.Words.{datums_of, word_of_place};
 ghost use Rattle.location_words.specs.Pairs.{IsHeldWord};
 ghost use Rattle.written_locations.specs.Further.{fixed_number, number_of_word, with_word};
-ghost use Rattle.written_locations.specs.Added.{further_of, number_at, word_at, IsAdded, IsNumbering, Adds};
+ghost use Rattle.written_locations.specs.Added.{further_of, number_at, word_at, Adds, AddsWord, HoldsWord, IsAdded};
+ghost use Rattle.written_locations.specs.Added.{IsNumbering};
 
 use location_table::Locations;
 use location_words::{Word, WordId, Words};
 use std::alloc::{AllocError, Global};
 
-/// The words of a section's places, as they are added one after another: each word that is neither the identity nor one datum
-/// gets the next number after the datums when it first occurs.
+/// The words of a section's places, as they are added one after another: each word that is neither the identity nor one
+/// datum gets the next number after the datums when it first occurs.
 #[derive(Drop)]
 pub struct WrittenLocations<'a> {
     section: &'a Locations,
@@ -63,7 +64,7 @@ impl<'a> WrittenLocations<'a> {
         requires place { place ≤ length self.old.section.now }
         ensures numbering { OnOk result (IsNumbering self.new) }
         ensures section { OnOk result (self.new.section.now ≡ self.old.section.now) }
-        ensures words { OnOk result (further_of self.new ≡ with_word (further_of self.old) (word_of_place self.old.section.now place)) }
+        ensures words { OnOk result (AddsWord place self.old self.new) }
         ensures added { OnOk result (IsAdded self.new place) }
         ensures kept { OnOk result ((k : ℕ) → IsAdded self.old k → IsAdded self.new k) }
     {
@@ -81,9 +82,9 @@ impl<'a> WrittenLocations<'a> {
         ensures numbering { OnOk result (IsNumbering self.new) }
         ensures section { OnOk result (self.new.section.now ≡ self.old.section.now) }
         ensures numbers { OnOk result (self.new.numbers.items ≡ self.old.numbers.items) }
-        ensures words { OnOk result (further_of self.new ≡ with_word (further_of self.old) (word_of_place self.old.section.now place)) }
+        ensures words { OnOk result (AddsWord place self.old self.new) }
         ensures number { IfOk result (λ n. n ≡ number_at self.new (word_at self.new place)) }
-        ensures held { OnOk result (fixed_number (word_at self.new place) ≡ None → Contains (further_of self.new) (word_at self.new place)) }
+        ensures held { OnOk result (HoldsWord self.new place) }
         ensures kept { OnOk result ((k : ℕ) → IsAdded self.old k → IsAdded self.new k) }
     {
         let word = self.section.word(place);

@@ -64,8 +64,8 @@ fn closing_zero(s: &mut Scanner) -> Result<(), ReadFault>
     }
 }
 
-/// The file that the bytes spell, or the fault of the first token that isn't accepted. The bytes are let go as soon as the scanner
-/// has them.
+/// The file that the bytes spell, or the fault of the first token that isn't accepted. The bytes are let go as soon as
+/// the scanner has them.
 pub fn read_file(alloc: Global, bytes: Vec<u8>) -> Result<File, ReadStop>
     ensures { FileGiven result (read_text file_limits bytes.items) }
 {

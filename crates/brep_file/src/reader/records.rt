@@ -1,10 +1,9 @@
 //! The reader of so many records.
-ghost use Rattle.brep_file.specs.RecordLeft.{AreWaitingRecords, IsVersionRead, bounds_of, records_left, so_far_of};
-ghost use Rattle.brep_file.specs.RecordReading.{SoFar as ReadSoFar, nothing_read, record_at};
-ghost use Rattle.brep_file.specs.Many.{many_from};
-ghost use Rattle.brep_tokens.specs.declared.text.Token.{Token};
+ghost use Rattle.brep_file.specs.RecordLeft.{AreWaitingRecords, IsVersionRead, records_at, records_left, so_far_of};
+ghost use Rattle.brep_file.specs.RecordReading.{SoFar as ReadSoFar};
 ghost use Rattle.entry_readers.specs.Reading.{more};
-ghost use Rattle.std.specs.Prelude.{◌≡◌, ◌<◌, List, [], Err};
+ghost use Rattle.entry_readers.specs.Takes.{ReadsAs};
+ghost use Rattle.std.specs.Prelude.{◌≡◌, ◌<◌, [], Err};
 
 use crate::reader::part::PartReader;
 use crate::reader::record::RecordReader;
@@ -27,7 +26,7 @@ impl RecordsReader {
     pub(crate) fn new(alloc: Global, bounds: RecordBounds) -> RecordsReader
         requires some { 0 < bounds.records }
         requires version { IsVersionRead bounds.version }
-        ensures left { (ts : List Token) → records_left result ts ≡ many_from (record_at (bounds_of bounds)) nothing_read bounds.records ts }
+        ensures left { ReadsAs (records_left result) (records_at bounds) }
         ensures waits { AreWaitingRecords result }
         ensures open { records_left result [] ≡ Err more }
     {

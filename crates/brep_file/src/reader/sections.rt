@@ -1,5 +1,6 @@
 //! The sections of a file, in their order: each is read into the file so far, and then those that follow it.
-ghost use Rattle.brep_file.specs.FileReading.{begun, from_curve2s, from_curves, from_locations, from_meshes, from_polygons, from_polygons_on, from_records, from_root, from_surfaces};
+ghost use Rattle.brep_file.specs.FileReading.{begun, from_curve2s, from_curves, from_locations, from_meshes};
+ghost use Rattle.brep_file.specs.FileReading.{from_polygons, from_polygons_on, from_records, from_root, from_surfaces};
 ghost use Rattle.brep_file.specs.Giving.{Gives, IsPartRead, IsReading, from_counted};
 ghost use Rattle.brep_file.specs.Sound.{file_limits, sizes_of};
 ghost use Rattle.std.specs.Prelude.{◌≡◌, length};

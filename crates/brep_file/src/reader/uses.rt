@@ -1,12 +1,13 @@
 //! The reader of a record's uses.
-ghost use Rattle.brep_file.specs.RecordLeft.{AreFew, HasRoom, IsWaitingUses, Says, at_uses, bounds_of, most_uses, so_far_of, uses_left, TakesUses};
-ghost use Rattle.brep_file.specs.RecordReading.{RecordBounds as ReadBounds, SoFar as ReadSoFar, above_at, fitting, is_star, named, named_at, none_gathered, use_of, uses_from};
+ghost use Rattle.brep_file.specs.RecordLeft.{AreFew, HasAllUses, HasRoom, IsWaitingUses, Says, TakesUses, TakesUsesAt};
+ghost use Rattle.brep_file.specs.RecordLeft.{bounds_of, most_uses, uses_left};
+ghost use Rattle.brep_file.specs.RecordReading.{RecordBounds as ReadBounds, SoFar as ReadSoFar, above_at, fitting};
+ghost use Rattle.brep_file.specs.RecordReading.{is_star, named_at, use_of};
 ghost use Rattle.brep_file.specs.declared.reader.uses.Stage.TheVariants as stages;
-ghost use Rattle.brep_tokens.specs.declared.text.Token.{Token};
 ghost use Rattle.entry_readers.specs.Reading.{more};
 ghost use Rattle.orientation.specs.Kinds.{rank_of};
 ghost use Rattle.orientation.specs.declared.kind.Kind.{Kind};
-ghost use Rattle.std.specs.Prelude.{◌≡◌, ◌+◌, ◌<◌, ◌≤◌, ℕ, List, [], Ok, Err, IfOk, length};
+ghost use Rattle.std.specs.Prelude.{◌≡◌, ◌+◌, ◌<◌, ◌≤◌, ℕ, [], Err, IfOk, length};
 
 use crate::reader::state::{Gathered, MOST_USES, Named, RecordBounds, Seen, SoFar};
 use brep_tokens::{Progress, ReadCode, ReadFault, ReadStop, Token, use_sign};
@@ -55,8 +56,8 @@ fn rank(kind: Kind) -> u64
     kind as u64 + 1
 }
 
-/// A child of a record of the kind `parent`, where so many uses stand before it: its kind is in order, and it is neither too deep nor
-/// one use too many.
+/// A child of a record of the kind `parent`, where so many uses stand before it: its kind is in order, and it is
+/// neither too deep nor one use too many.
 fn fit(
     bounds: RecordBounds,
     parent: Kind,
@@ -130,7 +131,7 @@ pub(crate) struct UsesReader {
 impl UsesReader {
     /// No token was taken yet.
     pub(crate) fn new(alloc: Global) -> UsesReader
-        ensures left { (b : ReadBounds) (s : ReadSoFar) (parent : Kind) (ts : List Token) → uses_left b s parent result ts ≡ uses_from b s parent none_gathered ts }
+        ensures left { HasAllUses result }
         ensures waits { (before : ℕ) → before ≤ most_uses → IsWaitingUses before result }
         ensures open { (b : ReadBounds) (s : ReadSoFar) (parent : Kind) → uses_left b s parent result [] ≡ Err more }
     {
@@ -150,7 +151,7 @@ impl UsesReader {
     ) -> Result<Progress, ReadStop>
         requires own { length so_far.now.seen.items < bounds.records }
         requires waits { IsWaitingUses so_far.now.uses self.old }
-        ensures { TakesUses (uses_left (bounds_of bounds) (so_far_of so_far.now) parent self.old) bounds so_far.now parent t.now self.new result }
+        ensures { TakesUses bounds so_far.now parent self.old t.now self.new result }
     {
         match self.stage {
             Stage::Sign => self.take_sign(t, bounds, so_far, parent),
@@ -168,7 +169,7 @@ impl UsesReader {
     ) -> Result<Progress, ReadStop>
         requires own { length so_far.now.seen.items < bounds.records }
         requires few { AreFew so_far.now.uses self.old.gathered }
-        ensures { TakesUses (at_uses stages.Sign (bounds_of bounds) (so_far_of so_far.now) parent self.old.gathered) bounds so_far.now parent t.now self.new result }
+        ensures { TakesUsesAt stages.Sign bounds so_far.now parent self.old t.now self.new result }
     {
         if star(t.bytes()) {
             self.stage = Stage::Whole;
@@ -189,7 +190,7 @@ impl UsesReader {
         named: Named,
     ) -> Result<Progress, ReadStop>
         requires { HasRoom so_far.now.uses self.old.gathered named }
-        ensures { TakesUses (at_uses (stages.Location named) (bounds_of bounds) (so_far_of so_far.now) parent self.old.gathered) bounds so_far.now parent t.now self.new result }
+        ensures { TakesUsesAt (stages.Location named) bounds so_far.now parent self.old t.now self.new result }
     {
         let location = ranged_due(0, u64::from(bounds.tables.locations), t)? as u32;
         self.gathered.push(named, location)?;

@@ -5,5 +5,6 @@ use Rattle.brep_file.proofs.uses.keep_unmarked.Goals as goal
 
 pub returns : goal.returns
 returns c =
-    let kept = filter_same _ (λ u. not (mark_of c.args.marks.now u.number)) _ (λ x b f' k. search rules) _ _ c.retain.ensures.filtered in
+    let kept = filter_same _ (λ u. not (mark_of c.args.marks.now u.number)) _ (λ x b f' k. search rules) _ _
+    c.retain.ensures.filtered in
     cc

@@ -8,5 +8,6 @@ use Rattle.brep_file.proofs.reader.pull.locations.Goals as goal
 
 pub returns : goal.returns
 returns c =
-    same_gives (λ (entries : List LocationEntry). entries) (locations_at c.args.count) (locations_left c.new-2.result) c.args.s.now c.part.new.s c.part.result
+    same_gives (λ (entries : List LocationEntry). entries) (locations_at c.args.count) (locations_left c.new-2.result)
+    c.args.s.now c.part.new.s c.part.result
     (sym (c.new-2.ensures.left (front c.args.s.now))) c.part.ensures

@@ -8,5 +8,6 @@ use Rattle.brep_file.proofs.reader.pull.root.Goals as goal
 
 pub returns : goal.returns
 returns c =
-    same_gives (λ (root : FileUse). root) (root_at c.args.locations c.args.records) (root_left c.new.result) c.args.s.now c.part.new.s c.part.result
+    same_gives (λ (root : FileUse). root) (root_at c.args.locations c.args.records) (root_left c.new.result)
+    c.args.s.now c.part.new.s c.part.result
     (sym (c.new.ensures.left (front c.args.s.now))) c.part.ensures

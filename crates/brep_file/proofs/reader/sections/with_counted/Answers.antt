@@ -7,5 +7,10 @@ use Rattle.brep_file.proofs.reader.sections.with_counted.Goals as goal
 
 pub with_root-requires-clause-count : goal.with_root-requires-clause-count
 with_root-requires-clause-count c =
-    let longer = many_longer (bounds_of (record { tables = c.sizes.result; version = c.args.file.version; records = c.args.count })) c.args.count nothing_read (front c.args.s.now) (front c.records.new.s) (so_far_of c.in_ok-so_far.so_far) c.in_ok-so_far.ensures.0 in
+    let longer = many_longer (bounds_of (record {
+      tables = c.sizes.result;
+      version = c.args.file.version;
+      records = c.args.count;
+    })) c.args.count nothing_read (front c.args.s.now) (front c.records.new.s)
+    (so_far_of c.in_ok-so_far.so_far) c.in_ok-so_far.ensures.0 in
     omega (arith, longer)

@@ -7,4 +7,6 @@ use Rattle.surface_tables.proofs.part.PartReader.take_count.Goals as goal
 
 pub returns-in-Ok-clause-part : goal.returns-in-Ok-clause-part
 returns-in-Ok-clause-part c =
-    steps_settled (at_stage (stages.Counts c.args.header) c.args.self.now) _ c.args.t.now (λ rest. rw (c.in-Ok.ensures rest) refl) c.go.new.self c.go.result c.go.ensures.part (rw c.go.ensures.nest c.requires)
+    steps_settled (at_stage (stages.Counts c.args.header) c.args.self.now) _ c.args.t.now
+    (λ rest. rw (c.in-Ok.ensures rest) refl) c.go.new.self c.go.result c.go.ensures.part
+    (rw c.go.ensures.nest c.requires)

@@ -7,6 +7,7 @@ use Rattle.surface_tables.proofs.part.PartReader.take_curve.Goals as goal
 pub returns-in-Ok-Whole-clause-part : goal.returns-in-Ok-Whole-clause-part
 returns-in-Ok-Whole-clause-part c =
     let took = rw c.in-Ok-Whole.field-0-is at c.in-Ok-Whole.ensures in
-    let read : (rest : List Token) → curve3_left c.args.self.now.curve (c.args.t.now ∷ rest) ≡ Ok (c.done-curve.result, rest) =
+    let read : (rest : List Token)
+    → curve3_left c.args.self.now.curve (c.args.t.now ∷ rest) ≡ Ok (c.done-curve.result, rest) =
     λ rest. sym (took.0 rest) ∙ rw (← c.replace-reader.ensures.value) (c.done-curve.ensures rest) in
     (λ rest. rw (read rest, c.taken-texts.ensures) refl, c.requires.nested)

@@ -14,6 +14,8 @@ returns-in_ok-number-clause-numbering c =
 
 pub returns-else-index-eq0-clause-words : goal.returns-else-index-eq0-clause-words
 returns-else-index-eq0-clause-words c = elim (c.requires.numbering.known c.args.place c.requires.place) [
-  | inl zero_yet ↦ absurd (c.if-index-eq0.false (c.index.ensures ∙ get_or_default_zero c.args.self.now.numbers.items c.args.place c.index.result.now (let long = c.requires.numbering.size in let le = c.requires.place in omega (arith, long, le)) ∙ zero_yet))
+  | inl zero_yet ↦ absurd (c.if-index-eq0.false
+      (c.index.ensures ∙ get_or_default_zero c.args.self.now.numbers.items c.args.place c.index.result.now (let long =
+      c.requires.numbering.size in let le = c.requires.place in omega (arith, long, le)) ∙ zero_yet))
   | inr h ↦ sym (with-known (further_of c.args.self.now) (word_at c.args.self.now c.args.place) h.held)
 ]

@@ -24,8 +24,10 @@ returns-in-Ok-Whole c =
     let took = rw c.in-Ok-Whole.field-0-is at c.in-Ok-Whole.ensures in
     let read : (rest : List Token) → head_left c.args.self.now.reader (c.args.t.now ∷ rest) ≡ Ok (c.done.result, rest) =
     λ rest. sym (took.0 rest) ∙ rw (← c.replace-reader.ensures.value) (c.done.ensures rest) in
-    let is_open : uses_left (bounds_of c.args.bounds) (so_far_of c.args.so_far.now) c.done.result.kind c.args.self.now.uses [] ≡ Err more =
-    waiting_open c.args.self.now.uses.stage (bounds_of c.args.bounds) (so_far_of c.args.so_far.now) c.done.result.kind c.args.so_far.now.uses c.args.self.now.uses.gathered c.requires.waits.uses in (
+    let is_open : uses_left (bounds_of c.args.bounds) (so_far_of c.args.so_far.now) c.done.result.kind
+    c.args.self.now.uses [] ≡ Err more =
+    waiting_open c.args.self.now.uses.stage (bounds_of c.args.bounds) (so_far_of c.args.so_far.now) c.done.result.kind
+    c.args.so_far.now.uses c.args.self.now.uses.gathered c.requires.waits.uses in (
       λ rest. rw (read rest) refl,
       rw is_open refl,
       (c.requires.waits.uses, c.requires.waits.few (c.args.t.now ∷ []) [] c.done.result (read [])),
