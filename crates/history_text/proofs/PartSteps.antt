@@ -1,10 +1,10 @@
 -- A reader of several parts stops where one of them stops, and goes on behind one that is read.
-use Rattle.std.proofs.Common.{◌≡◌, ℕ, ◌==◌, inl, inr, false, List, length, Result, Ok, Err, refl, ap, sym, subst, ◌∙◌, arith}
+use Rattle.std.proofs.Common.{◌≡◌, ℕ, ◌==◌, inl, inr, false, List, length, Result, Ok, Err, refl, ap, sym, subst, ◌∙◌}
 use Rattle.std.specs.Prelude.{codes, IsErrAnd}
 use Rattle.std.proofs.lemmas.Bool.Decides.{eqb_tells}
 use Rattle.lists.specs.Results.{◌>>=◌}
 use Rattle.history_text.specs.LineForms.{text_of_line}
-use Rattle.history_text.specs.Reading.{Left, Read, alone, history_at, history_of, line_at, origins_at, pairs_at, removed_at, rest_at}
+use Rattle.history_text.specs.Reading.{Left, Read, history_at, history_of, line_at, origins_at, pairs_at, removed_at, rest_at}
 use Rattle.history_text.specs.Spelled.{Gives, Takes}
 use Rattle.history_text.specs.TakenLine.{IsAtEnd}
 use Rattle.history_text.specs.declared.fault.HistoryFault.{HistoryFault}

@@ -1,17 +1,16 @@
 -- A section is read exactly as it is spelled.
-use Rattle.std.proofs.Common.{◌≡◌, ℕ, zero, suc, ◌+◌, ◌-◌, ◌^◌, ◌<◌, ◌≤◌, Bool, true, false, List, [], ◌∷◌, ◌++◌, length, Option, Some, None, Result, Ok, Err, refl, sym, ap, subst, ◌∙◌, append_assoc, arith}
+use Rattle.std.proofs.Common.{◌≡◌, ℕ, zero, suc, ◌+◌, ◌-◌, ◌<◌, List, [], ◌∷◌, ◌++◌, length, Option, Some, None, Ok, refl, sym, ap, subst, ◌∙◌, append_assoc, arith}
 use Rattle.std.specs.Fmt.{decimal}
 use Rattle.std.specs.List.{join_with_byte}
 use Rattle.std.proofs.lemmas.List.{append-nil}
 use Rattle.brep_tokens.specs.Laws.{FormsAreExact}
 use Rattle.brep_tokens.specs.Written.{line_text, lines_text}
-use Rattle.lists.specs.Results.{◌>>=◌}
 use Rattle.lists.proofs.Results.{bind_ok, ok_is}
 use Rattle.history_text.specs.HistoryText.{IsShort}
 use Rattle.history_text.specs.LineForms.{count_of_line, cut_at}
-use Rattle.history_text.specs.Reading.{Left, Read, first_line, line_at, lines_at, said_before, section_at}
-use Rattle.history_text.proofs.LineCuts.{Lacks, Lacks-append, cut_again, cut_joins, decimal_lacks}
-use Rattle.history_text.proofs.FormLaws.{count_again, count_there}
+use Rattle.history_text.specs.Reading.{Left, first_line, line_at, lines_at, said_before, section_at}
+use Rattle.history_text.proofs.LineCuts.{Lacks, cut_again, cut_joins}
+use Rattle.history_text.proofs.FormLaws.{count_there}
 
 abbrev pub left_at : ℕ → List ℕ → Left
 left_at n bytes = record { number = n; bytes = bytes }

@@ -1,5 +1,5 @@
 -- Texts that spell a history, what an answer of `read` says of a text, and what holds of all texts.
-use Rattle.std.specs.Prelude.{◌≡◌, ◌↔◌, ℕ, ◌+◌, ◌<◌, List, ◌++◌, length, take, Some, None, Result, Ok, Err}
+use Rattle.std.specs.Prelude.{◌≡◌, ◌↔◌, ℕ, ◌+◌, ◌<◌, List, ◌++◌, length, take, Some, Result, Ok, Err}
 use Rattle.brep_tokens.specs.Written.{lines_text}
 use Rattle.history_text.specs.HistoryText.{IsHistory, history_lines, text_of}
 use Rattle.history_text.specs.Reading.{Left, Read, first_that_disagrees, history_of}

@@ -1,5 +1,5 @@
 -- What single calls on the lines that are left answer.
-use Rattle.std.specs.Prelude.{◌≡◌, ℕ, ◌+◌, length, Some, None, Result, Ok, Err}
+use Rattle.std.specs.Prelude.{◌≡◌, ◌+◌, length, Some, None, Result, Ok, Err}
 use Rattle.history_text.specs.LineForms.{cut_at}
 use Rattle.history_text.specs.Reading.{Left}
 use Rattle.history_text.specs.declared.fault.HistoryFault.{HistoryFault}
