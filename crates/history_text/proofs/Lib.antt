@@ -1,2 +1,9 @@
+pub mod FormLaws
+pub mod LineCuts
 pub mod LineLaws
+pub mod PartLaws
+pub mod PartSteps
+pub mod ReadingLaws
+pub mod SectionLaws
 pub mod SendingLaws
+pub mod Spans

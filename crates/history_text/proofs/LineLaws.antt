@@ -1,8 +1,8 @@
 -- Lines that are written one after another.
-use Rattle.std.proofs.Common.{◌≡◌, ℕ, zero, suc, ◌+◌, ◌≤◌, ◌<◌, List, [], ◌∷◌, ◌++◌, length, get_or, take, drop, map, refl, sym, ap, subst, ◌∙◌, append_assoc, arith}
+use Rattle.std.proofs.Common.{◌≡◌, ℕ, zero, suc, ◌+◌, ◌≤◌, ◌<◌, List, [], ◌∷◌, ◌++◌, length, get_or, take, drop, map, refl, sym, ap, ◌∙◌, append_assoc, arith}
 use Rattle.std.specs.Prelude.{Some, slice_get, codes}
-use Rattle.std.specs.List.{flat_map, enumerate_from}
-use Rattle.std.proofs.lemmas.List.{append-nil, length-append, length-map, take_more, take_all, take-append-drop}
+use Rattle.std.specs.List.{enumerate_from}
+use Rattle.std.proofs.lemmas.List.{append-nil, length-append, length-map, take_more, take_all}
 use Rattle.std.proofs.lemmas.Grind.{flat_map-append}
 use Rattle.brep_tokens.specs.Written.{line_text, lines_text}
 use Rattle.history_text.specs.HistoryText.{number_words, pair_words, origin_lines, section, text_of}

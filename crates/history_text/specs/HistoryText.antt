@@ -21,6 +21,16 @@ section word lines = (word ∷ decimal (length lines) ∷ []) ∷ lines
 abbrev pub origin_lines : List ℕ → List (List (List ℕ))
 origin_lines origins = map pair_words (enumerate_from 1 origins)
 
+-- the text of the written numbers with their origins, of pairs under a word, and of removed numbers
+abbrev pub origins_text : List ℕ → List ℕ
+origins_text origins = lines_text (section (codes "records") (origin_lines origins))
+
+abbrev pub pairs_text : List ℕ → List (ℕ × ℕ) → List ℕ
+pairs_text word pairs = lines_text (section word (map pair_words pairs))
+
+abbrev pub removed_text : List ℕ → List ℕ
+removed_text removed = lines_text (section (codes "removed") (map number_words removed))
+
 abbrev pub history_lines : HistoryFile → List (List (List ℕ))
 history_lines h =
     (codes "BREP-HISTORY" ∷ codes "1" ∷ [])

@@ -18,6 +18,15 @@ counted n = min n (2 ^ 64 - 1)
 abbrev pub KeepsStraysIfOpen : Tells → Shown → Shown → ℕ → Type 0
 KeepsStraysIfOpen t old new c = (name : List ℕ) → old.opened c ≡ writing name → KeepsStrays t old new
 
+-- The whole text was appended.
+abbrev pub AppendedWhole : Tells → Shown → Shown → ℕ → List ℕ → Type 0
+AppendedWhole t old new c text = Appended t old new c text (length text)
+
+-- The first bytes of the text were appended, so many as are told, and not all.
+abbrev pub AppendedPart : Tells → Shown → Shown → ℕ → List ℕ → ℕ → Type 0
+AppendedPart t old new c text taken =
+    (count : ℕ) × (count < length text) × (taken ≡ counted count) × Appended t old new c text count
+
 -- A text came behind what waited, and the desk took what no longer waits.
 pub record Sent (t : Tells) (old new : Shown) (c : ℕ) (before after : Waiting) (text : List ℕ) : Type 0 where
   pub gone : List ℕ

@@ -1,13 +1,9 @@
 //! The text of a history, written over a channel.
 ghost use Rattle.brep_desk.specs.Causes.{Rose};
-ghost use Rattle.brep_desk.specs.Shown.{writing};
-ghost use Rattle.brep_desk.specs.Strays.{KeepsStrays};
 ghost use Rattle.brep_desk.specs.WritingCalls.{RoseWritingCalls};
-ghost use Rattle.brep_desk.specs.Transfers.{Appended};
-ghost use Rattle.brep_tokens.specs.Written.{lines_text};
-ghost use Rattle.history_text.specs.HistoryText.{number_words, origin_lines, pair_words, section, text_of};
-ghost use Rattle.history_text.specs.Sending.{Sends, counted};
-ghost use Rattle.std.specs.Prelude.{◌≡◌, ℕ, List, ◌<◌, ◌≤◌, codes, length, map, IfErr, IfOk, OnErr, OnOk};
+ghost use Rattle.history_text.specs.HistoryText.{origins_text, pairs_text, removed_text, text_of};
+ghost use Rattle.history_text.specs.Sending.{AppendedPart, AppendedWhole, KeepsStraysIfOpen, Sends, counted};
+ghost use Rattle.std.specs.Prelude.{◌≡◌, ◌≤◌, length, IfErr, IfOk, OnErr, OnOk};
 
 use crate::file::HistoryFile;
 use crate::lines::{count_line, number_line, pair_line};
@@ -26,7 +22,8 @@ fn put_origins<D: Desk>(
     ensures later { D.faults desk.old ≤ D.faults desk.new }
     ensures cause { OnErr result (Rose (D.faults desk.old) (D.faults desk.new)) }
     ensures no_fault { OnOk result (D.faults desk.new ≡ D.faults desk.old) }
-    ensures sends { Sends D.tells (D.shows desk.old) (D.shows desk.new) c.number pending.old pending.new (lines_text (section (codes "records") (origin_lines origins.now))) result }
+    ensures sends { Sends D.tells (D.shows desk.old) (D.shows desk.new) c.number pending.old pending.new
+        (origins_text origins.now) result }
 {
     pending.put(desk, c, count_line(b"records", origins.len()).as_slice())?;
     let mut at = 0;
@@ -49,7 +46,8 @@ fn put_pairs<D: Desk>(
     ensures later { D.faults desk.old ≤ D.faults desk.new }
     ensures cause { OnErr result (Rose (D.faults desk.old) (D.faults desk.new)) }
     ensures no_fault { OnOk result (D.faults desk.new ≡ D.faults desk.old) }
-    ensures sends { Sends D.tells (D.shows desk.old) (D.shows desk.new) c.number pending.old pending.new (lines_text (section word.now (map pair_words pairs.now))) result }
+    ensures sends { Sends D.tells (D.shows desk.old) (D.shows desk.new) c.number pending.old pending.new
+        (pairs_text word.now pairs.now) result }
 {
     pending.put(desk, c, count_line(word, pairs.len()).as_slice())?;
     let mut at = 0;
@@ -70,7 +68,8 @@ fn put_removed<D: Desk>(
     ensures later { D.faults desk.old ≤ D.faults desk.new }
     ensures cause { OnErr result (Rose (D.faults desk.old) (D.faults desk.new)) }
     ensures no_fault { OnOk result (D.faults desk.new ≡ D.faults desk.old) }
-    ensures sends { Sends D.tells (D.shows desk.old) (D.shows desk.new) c.number pending.old pending.new (lines_text (section (codes "removed") (map number_words removed.now))) result }
+    ensures sends { Sends D.tells (D.shows desk.old) (D.shows desk.new) c.number pending.old pending.new
+        (removed_text removed.now) result }
 {
     pending.put(desk, c, count_line(b"removed", removed.len()).as_slice())?;
     let mut at = 0;
@@ -91,7 +90,8 @@ fn put_history<D: Desk>(
     ensures later { D.faults desk.old ≤ D.faults desk.new }
     ensures cause { OnErr result (Rose (D.faults desk.old) (D.faults desk.new)) }
     ensures no_fault { OnOk result (D.faults desk.new ≡ D.faults desk.old) }
-    ensures sends { Sends D.tells (D.shows desk.old) (D.shows desk.new) c.number pending.old pending.new (text_of h.now) result }
+    ensures sends { Sends D.tells (D.shows desk.old) (D.shows desk.new) c.number pending.old pending.new
+        (text_of h.now) result }
 {
     pending.put(desk, c, b"BREP-HISTORY 1\n")?;
     put_origins(pending, desk, c, &h.origins)?;
@@ -107,10 +107,12 @@ pub fn emit<D: Desk>(h: &HistoryFile, desk: &mut D, c: Chan) -> Result<u64, Writ
     ensures later { D.faults desk.old ≤ D.faults desk.new }
     ensures cause { OnErr result (Rose (D.faults desk.old) (D.faults desk.new)) }
     ensures no_fault { OnOk result (D.faults desk.new ≡ D.faults desk.old) }
-    ensures whole { OnOk result (Appended D.tells (D.shows desk.old) (D.shows desk.new) c.number (text_of h.now) (length (text_of h.now))) }
+    ensures whole { OnOk result
+        (AppendedWhole D.tells (D.shows desk.old) (D.shows desk.new) c.number (text_of h.now)) }
     ensures size { IfOk result (λ n. n ≡ counted (length (text_of h.now))) }
-    ensures part { IfErr result (λ e. (count : ℕ) × (count < length (text_of h.now)) × (e.taken ≡ counted count) × Appended D.tells (D.shows desk.old) (D.shows desk.new) c.number (text_of h.now) count) }
-    ensures strays { (name : List ℕ) → (D.shows desk.old).opened c.number ≡ writing name → KeepsStrays D.tells (D.shows desk.old) (D.shows desk.new) }
+    ensures part { IfErr result (λ e.
+        AppendedPart D.tells (D.shows desk.old) (D.shows desk.new) c.number (text_of h.now) e.taken) }
+    ensures strays { KeepsStraysIfOpen D.tells (D.shows desk.old) (D.shows desk.new) c.number }
     ensures writing_calls { RoseWritingCalls D.tells (D.shows desk.old) (D.shows desk.new) }
 {
     let mut pending = Pending::new();

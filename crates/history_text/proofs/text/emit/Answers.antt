@@ -1,7 +1,5 @@
-use Rattle.std.proofs.Common.{◌≡◌, ℕ, ◌<◌, List, [], ◌++◌, length, ap, sym, subst, ◌∙◌, arith, rules}
+use Rattle.std.proofs.Common.{[], ap}
 use Rattle.std.proofs.lemmas.List.{append-nil}
-use Rattle.brep_desk.specs.Transfers.{Appended}
-use Rattle.brep_desk.specs.declared.transfers.WriteStop.{WriteStop}
 use Rattle.history_text.specs.HistoryText.{text_of}
 use Rattle.history_text.specs.Sending.{Waiting}
 use Rattle.history_text.proofs.SendingLaws.{Sent-then, Sent-as, Sent-all, Stopped-part, Stopped-then, Stopped-as, IfErr-on, Sent-calls, later_rose}
