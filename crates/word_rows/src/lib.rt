@@ -6,6 +6,4 @@ mod graphs;
 #[cfg(test)]
 mod products;
 #[cfg(test)]
-mod same;
-#[cfg(test)]
 mod turns;
