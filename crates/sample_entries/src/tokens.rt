@@ -37,7 +37,8 @@ pub fn append(said: &mut String, text: &TokenText) -> Result<(), Fail> {
     Ok(())
 }
 
-/// The text that a line of a table gives, and what is to be said of it: `text -> said`, or `count: text`, which is itself to be said.
+/// The text that a line of a table gives, and what is to be said of it: `text -> said`, or `count: text`, which is
+/// itself to be said.
 pub fn row<'a>(line: &'a str) -> Option<(&'a str, &'a str)> {
     if let Some((text, said)) = line.split_once(" -> ") {
         return Some((text.trim(), said));

@@ -30,7 +30,8 @@ one_word : (a l : List ℕ) → 32 ∷ (a ++ 32 ∷ l) ≡ (32 ∷ (a ++ [])) ++
 one_word a l = ap (λ t. 32 ∷ (t ++ 32 ∷ l)) (sym (append-nil a))
 
 two_words : (a b l : List ℕ) → 32 ∷ (a ++ 32 ∷ (b ++ 32 ∷ l)) ≡ (32 ∷ (a ++ 32 ∷ (b ++ []))) ++ 32 ∷ l
-two_words a b l = ap (λ t. 32 ∷ (a ++ t)) (one_word b l) ∙ sym (ap (λ t. 32 ∷ t) (append_assoc a (32 ∷ (b ++ [])) (32 ∷ l)))
+two_words a b l = ap (λ t. 32 ∷ (a ++ t)) (one_word b l)
+    ∙ sym (ap (λ t. 32 ∷ t) (append_assoc a (32 ∷ (b ++ [])) (32 ∷ l)))
 
 -- ---- representations of edges
 module _ (renumber : ℕ → ℕ) where
@@ -43,7 +44,8 @@ module _ (renumber : ℕ → ℕ) where
   renumbered-form (edge_reps.PolygonOn polygon_on mesh location) = refl
   renumbered-form (edge_reps.SeamPolygons a b mesh location) = refl
 
-  renumbered-texts : (version : ℕ) (r : EdgeRep) → texts_in version (renumbered_edge_rep renumber r) ≡ texts_in version r
+  renumbered-texts : (version : ℕ) (r : EdgeRep)
+      → texts_in version (renumbered_edge_rep renumber r) ≡ texts_in version r
   renumbered-texts version (edge_reps.Curve curve location texts) = refl
   renumbered-texts version (edge_reps.Curve2 curve2 surface location texts) = refl
   renumbered-texts version (edge_reps.Seam a b continuity surface location texts) = refl
@@ -55,57 +57,79 @@ module _ (renumber : ℕ → ℕ) where
   rep_text : (d : List ℕ) (numbers parameters : Line) (rest : List ℕ) →
       line_text (d ∷ (numbers ++ parameters)) ++ rest ≡ d ++ (spaced numbers ++ (spaced parameters ++ 10 ∷ rest))
   rep_text d numbers parameters rest =
-      ap (λ t. (t ++ 10 ∷ []) ++ rest) (join_spaced d (numbers ++ parameters) ∙ ap (λ t. d ++ t) (flat_map-append (λ (w : List ℕ). 32 ∷ w) numbers parameters))
+      ap (λ t. (t ++ 10 ∷ []) ++ rest) (join_spaced d (numbers ++ parameters)
+      ∙ ap (λ t. d ++ t) (flat_map-append (λ (w : List ℕ). 32 ∷ w) numbers parameters))
       ∙ simp append_assoc
 
-  pub edge_rep_text : (version : ℕ) (r : EdgeRep) → lines_text (edge_rep_lines version (renumbered_edge_rep renumber r)) ≡
-      decimal (edge_number (form_of_edge r)) ++ (spaced (number_words (renumbered_edge_rep renumber r)) ++ parameters_text version r)
+  pub edge_rep_text : (version : ℕ) (r : EdgeRep)
+      → lines_text (edge_rep_lines version (renumbered_edge_rep renumber r)) ≡
+      decimal (edge_number (form_of_edge r)) ++ (spaced (number_words (renumbered_edge_rep renumber r))
+      ++ parameters_text version r)
   edge_rep_text version r =
       let e : EdgeRep = renumbered_edge_rep renumber r in
-      rep_text (decimal (edge_number (form_of_edge e))) (number_words e) (take 2 (texts_in version e)) (lines_text (uv_lines (drop 2 (texts_in version e))))
-      ∙ (λ i. decimal (edge_number (renumbered-form r i)) ++ (spaced (number_words e) ++ (spaced (take 2 (renumbered-texts version r i)) ++ 10 ∷ lines_text (uv_lines (drop 2 (renumbered-texts version r i))))))
+      rep_text (decimal (edge_number (form_of_edge e))) (number_words e) (take 2 (texts_in version e))
+      (lines_text (uv_lines (drop 2 (texts_in version e))))
+      ∙ (λ i. decimal (edge_number (renumbered-form r i))
+      ++ (spaced (number_words e) ++ (spaced (take 2 (renumbered-texts version r i)) ++ 10 ∷ lines_text
+      (uv_lines (drop 2 (renumbered-texts version r i))))))
 
 -- ---- representations of vertices
 module _ (renumber : ℕ → ℕ) where
-  pub on_curve : (p : PointRep) (texts : List (List ℕ)) (curve location : ℕ) → p ≡ point_reps.OnCurve texts curve location → length (texts_of_point p) ≡ 1 + second_texts (form_of_point p) →
-      join_with_byte 32 (point_line (renumbered_point renumber p)) ≡ slice_index_or texts 0 [] ++ (codes " 1" ++ (entries_text (curve ∷ []) ++ 32 ∷ decimal (renumber location)))
+  pub on_curve : (p : PointRep) (texts : List (List ℕ)) (curve location : ℕ)
+      → p ≡ point_reps.OnCurve texts curve location → length (texts_of_point p) ≡ 1 + second_texts (form_of_point p) →
+      join_with_byte 32 (point_line (renumbered_point renumber p)) ≡ slice_index_or texts 0 []
+      ++ (codes " 1" ++ (entries_text (curve ∷ []) ++ 32 ∷ decimal (renumber location)))
   on_curve p texts curve location is long =
       ap (λ (q : PointRep). join_with_byte 32 (point_line (renumbered_point renumber q))) is
-      ∙ words texts (sym (ap (λ (q : PointRep). length (texts_of_point q)) is) ∙ long ∙ ap (λ (q : PointRep). 1 + second_texts (form_of_point q)) is)
+      ∙ words texts (sym (ap (λ (q : PointRep). length (texts_of_point q)) is) ∙ long
+      ∙ ap (λ (q : PointRep). 1 + second_texts (form_of_point q)) is)
     where
       words : (ts : List (List ℕ)) → length ts ≡ 1 →
-          join_with_byte 32 (point_line (renumbered_point renumber (point_reps.OnCurve ts curve location))) ≡ slice_index_or ts 0 [] ++ (codes " 1" ++ (entries_text (curve ∷ []) ++ 32 ∷ decimal (renumber location)))
-      words (x ∷ []) h = ap (λ t. x ++ 32 ∷ (t ++ 32 ∷ (decimal curve ++ 32 ∷ decimal (renumber location)))) digit_1 ∙ ap (λ t. x ++ 32 ∷ 49 ∷ t) (one_word (decimal curve) (decimal (renumber location)))
+          join_with_byte 32 (point_line (renumbered_point renumber (point_reps.OnCurve ts curve location)))
+          ≡ slice_index_or ts 0 [] ++ (codes " 1"
+          ++ (entries_text (curve ∷ []) ++ 32 ∷ decimal (renumber location)))
+      words (x ∷ []) h = ap (λ t. x ++ 32 ∷ (t ++ 32 ∷ (decimal curve ++ 32 ∷ decimal (renumber location)))) digit_1
+          ∙ ap (λ t. x ++ 32 ∷ 49 ∷ t) (one_word (decimal curve) (decimal (renumber location)))
       words [] h = absurd (omega (arith, h))
       words (x ∷ y ∷ ts) h = absurd (omega (arith, h))
 
-  pub on_curve2 : (p : PointRep) (texts : List (List ℕ)) (curve2 surface location : ℕ) → p ≡ point_reps.OnCurve2 texts curve2 surface location →
+  pub on_curve2 : (p : PointRep) (texts : List (List ℕ)) (curve2 surface location : ℕ)
+      → p ≡ point_reps.OnCurve2 texts curve2 surface location →
       length (texts_of_point p) ≡ 1 + second_texts (form_of_point p) →
-      join_with_byte 32 (point_line (renumbered_point renumber p)) ≡ slice_index_or texts 0 [] ++ (codes " 2" ++ (entries_text (curve2 ∷ surface ∷ []) ++ 32 ∷ decimal (renumber location)))
+      join_with_byte 32 (point_line (renumbered_point renumber p)) ≡ slice_index_or texts 0 []
+      ++ (codes " 2" ++ (entries_text (curve2 ∷ surface ∷ []) ++ 32 ∷ decimal (renumber location)))
   on_curve2 p texts curve2 surface location is long =
       ap (λ (q : PointRep). join_with_byte 32 (point_line (renumbered_point renumber q))) is
-      ∙ words texts (sym (ap (λ (q : PointRep). length (texts_of_point q)) is) ∙ long ∙ ap (λ (q : PointRep). 1 + second_texts (form_of_point q)) is)
+      ∙ words texts (sym (ap (λ (q : PointRep). length (texts_of_point q)) is) ∙ long
+      ∙ ap (λ (q : PointRep). 1 + second_texts (form_of_point q)) is)
     where
       words : (ts : List (List ℕ)) → length ts ≡ 1 →
           join_with_byte 32 (point_line (renumbered_point renumber (point_reps.OnCurve2 ts curve2 surface location))) ≡
-          slice_index_or ts 0 [] ++ (codes " 2" ++ (entries_text (curve2 ∷ surface ∷ []) ++ 32 ∷ decimal (renumber location)))
+          slice_index_or ts 0 [] ++ (codes " 2"
+          ++ (entries_text (curve2 ∷ surface ∷ []) ++ 32 ∷ decimal (renumber location)))
       words (x ∷ []) h =
-          ap (λ t. x ++ 32 ∷ (t ++ 32 ∷ (decimal curve2 ++ 32 ∷ (decimal surface ++ 32 ∷ decimal (renumber location))))) digit_2
+          ap (λ t. x ++ 32 ∷ (t ++ 32 ∷ (decimal curve2 ++ 32 ∷ (decimal surface ++ 32 ∷ decimal (renumber location)))))
+          digit_2
           ∙ ap (λ t. x ++ 32 ∷ 50 ∷ t) (two_words (decimal curve2) (decimal surface) (decimal (renumber location)))
       words [] h = absurd (omega (arith, h))
       words (x ∷ y ∷ ts) h = absurd (omega (arith, h))
 
-  pub on_surface : (p : PointRep) (texts : List (List ℕ)) (surface location : ℕ) → p ≡ point_reps.OnSurface texts surface location →
+  pub on_surface : (p : PointRep) (texts : List (List ℕ)) (surface location : ℕ)
+      → p ≡ point_reps.OnSurface texts surface location →
       length (texts_of_point p) ≡ 1 + second_texts (form_of_point p) →
       join_with_byte 32 (point_line (renumbered_point renumber p)) ≡
-      slice_index_or texts 0 [] ++ (codes " 3 " ++ (slice_index_or texts 1 [] ++ (entries_text (surface ∷ []) ++ 32 ∷ decimal (renumber location))))
+      slice_index_or texts 0 []
+      ++ (codes " 3 " ++ (slice_index_or texts 1 []
+      ++ (entries_text (surface ∷ []) ++ 32 ∷ decimal (renumber location))))
   on_surface p texts surface location is long =
       ap (λ (q : PointRep). join_with_byte 32 (point_line (renumbered_point renumber q))) is
-      ∙ words texts (sym (ap (λ (q : PointRep). length (texts_of_point q)) is) ∙ long ∙ ap (λ (q : PointRep). 1 + second_texts (form_of_point q)) is)
+      ∙ words texts (sym (ap (λ (q : PointRep). length (texts_of_point q)) is) ∙ long
+      ∙ ap (λ (q : PointRep). 1 + second_texts (form_of_point q)) is)
     where
       words : (ts : List (List ℕ)) → length ts ≡ 2 →
           join_with_byte 32 (point_line (renumbered_point renumber (point_reps.OnSurface ts surface location))) ≡
-          slice_index_or ts 0 [] ++ (codes " 3 " ++ (slice_index_or ts 1 [] ++ (entries_text (surface ∷ []) ++ 32 ∷ decimal (renumber location))))
+          slice_index_or ts 0 [] ++ (codes " 3 "
+          ++ (slice_index_or ts 1 [] ++ (entries_text (surface ∷ []) ++ 32 ∷ decimal (renumber location))))
       words (x ∷ y ∷ []) h =
           ap (λ t. x ++ 32 ∷ (t ++ 32 ∷ (y ++ 32 ∷ (decimal surface ++ 32 ∷ decimal (renumber location))))) digit_3
           ∙ ap (λ t. x ++ 32 ∷ 51 ∷ 32 ∷ (y ++ t)) (one_word (decimal surface) (decimal (renumber location)))
@@ -115,7 +139,9 @@ module _ (renumber : ℕ → ℕ) where
 
 -- ---- lines of decimals
 pub uv_text : (texts : List (List ℕ)) → length texts ≡ 6 → line_text (drop 2 texts) ≡
-    (slice_index_or texts 2 [] ++ 32 ∷ []) ++ ((slice_index_or texts 3 [] ++ 32 ∷ []) ++ ((slice_index_or texts 4 [] ++ 32 ∷ []) ++ (slice_index_or texts 5 [] ++ 10 ∷ [])))
+    (slice_index_or texts 2 [] ++ 32 ∷ [])
+    ++ ((slice_index_or texts 3 [] ++ 32 ∷ [])
+    ++ ((slice_index_or texts 4 [] ++ 32 ∷ []) ++ (slice_index_or texts 5 [] ++ 10 ∷ [])))
 uv_text (a ∷ b ∷ d ∷ e ∷ f ∷ g ∷ []) h = simp append_assoc
 uv_text [] h = absurd (omega (arith, h))
 uv_text (a ∷ []) h = absurd (omega (arith, h))
@@ -126,7 +152,9 @@ uv_text (a ∷ b ∷ d ∷ e ∷ f ∷ []) h = absurd (omega (arith, h))
 uv_text (a ∷ b ∷ d ∷ e ∷ f ∷ g ∷ k ∷ texts) h = absurd (omega (arith, h))
 
 pub vertex_lines : (texts : List (List ℕ)) → length texts ≡ 4 → vertex_texts texts ≡
-    (slice_index_or texts 0 [] ++ 10 ∷ []) ++ ((slice_index_or texts 1 [] ++ 32 ∷ []) ++ ((slice_index_or texts 2 [] ++ 32 ∷ []) ++ (slice_index_or texts 3 [] ++ 10 ∷ [])))
+    (slice_index_or texts 0 [] ++ 10 ∷ [])
+    ++ ((slice_index_or texts 1 [] ++ 32 ∷ [])
+    ++ ((slice_index_or texts 2 [] ++ 32 ∷ []) ++ (slice_index_or texts 3 [] ++ 10 ∷ [])))
 unfolding vertex_texts
 vertex_lines (a ∷ b ∷ d ∷ e ∷ []) h = simp append_assoc
 vertex_lines [] h = absurd (omega (arith, h))
@@ -135,12 +163,14 @@ vertex_lines (a ∷ b ∷ []) h = absurd (omega (arith, h))
 vertex_lines (a ∷ b ∷ d ∷ []) h = absurd (omega (arith, h))
 vertex_lines (a ∷ b ∷ d ∷ e ∷ f ∷ texts) h = absurd (omega (arith, h))
 
-pub four_more : (t0 t1 t2 t3 t4 a b d e : List ℕ) → t1 ≡ t0 ++ a ++ 10 ∷ [] → t2 ≡ t1 ++ b ++ 32 ∷ [] → t3 ≡ t2 ++ d ++ 32 ∷ [] → t4 ≡ t3 ++ e ++ 10 ∷ [] →
+pub four_more : (t0 t1 t2 t3 t4 a b d e : List ℕ) → t1 ≡ t0 ++ a ++ 10 ∷ [] → t2 ≡ t1 ++ b ++ 32 ∷ []
+    → t3 ≡ t2 ++ d ++ 32 ∷ [] → t4 ≡ t3 ++ e ++ 10 ∷ [] →
     t4 ≡ t0 ++ ((a ++ 10 ∷ []) ++ ((b ++ 32 ∷ []) ++ ((d ++ 32 ∷ []) ++ (e ++ 10 ∷ []))))
 four_more t0 t1 t2 t3 t4 a b d e e1 e2 e3 e4 =
     e4 ∙ ap (λ t. t ++ e ++ 10 ∷ []) (e3 ∙ ap (λ t. t ++ d ++ 32 ∷ []) (e2 ∙ ap (λ t. t ++ b ++ 32 ∷ []) e1)) ∙ in_row
   where
-    in_row : ((((((((t0 ++ a) ++ 10 ∷ []) ++ b) ++ 32 ∷ []) ++ d) ++ 32 ∷ []) ++ e) ++ 10 ∷ []) ≡ t0 ++ ((a ++ 10 ∷ []) ++ ((b ++ 32 ∷ []) ++ ((d ++ 32 ∷ []) ++ (e ++ 10 ∷ []))))
+    in_row : ((((((((t0 ++ a) ++ 10 ∷ []) ++ b) ++ 32 ∷ []) ++ d) ++ 32 ∷ []) ++ e) ++ 10 ∷ []) ≡ t0
+        ++ ((a ++ 10 ∷ []) ++ ((b ++ 32 ∷ []) ++ ((d ++ 32 ∷ []) ++ (e ++ 10 ∷ []))))
     in_row = simp append_assoc
 
 -- ---- data
@@ -149,28 +179,36 @@ module _ (renumber : ℕ → ℕ) where
   points_text points = flat_map (λ (p : PointRep). line_text (point_line (renumbered_point renumber p))) points
 
   abbrev pub edge_reps_text : ℕ → List EdgeRep → List ℕ
-  edge_reps_text version reps = flat_map (λ (r : EdgeRep). lines_text (edge_rep_lines version (renumbered_edge_rep renumber r))) reps
+  edge_reps_text version reps =
+      flat_map (λ (r : EdgeRep). lines_text (edge_rep_lines version (renumbered_edge_rep renumber r))) reps
 
-  each-point : (points : List PointRep) → lines_text (map point_line (map (renumbered_point renumber) points)) ≡ points_text points
+  each-point : (points : List PointRep)
+      → lines_text (map point_line (map (renumbered_point renumber) points)) ≡ points_text points
   each-point [] = refl
   each-point (p ∷ points) = ap (λ t. line_text (point_line (renumbered_point renumber p)) ++ t) (each-point points)
 
-  each-edge_rep : (version : ℕ) (reps : List EdgeRep) → lines_text (flat_map (edge_rep_lines version) (map (renumbered_edge_rep renumber) reps)) ≡ edge_reps_text version reps
+  each-edge_rep : (version : ℕ) (reps : List EdgeRep)
+      → lines_text (flat_map (edge_rep_lines version) (map (renumbered_edge_rep renumber) reps))
+      ≡ edge_reps_text version reps
   each-edge_rep version [] = refl
   each-edge_rep version (r ∷ reps) =
-      flat_map-append line_text (edge_rep_lines version (renumbered_edge_rep renumber r)) (flat_map (edge_rep_lines version) (map (renumbered_edge_rep renumber) reps))
+      flat_map-append line_text (edge_rep_lines version (renumbered_edge_rep renumber r))
+      (flat_map (edge_rep_lines version) (map (renumbered_edge_rep renumber) reps))
       ∙ ap (λ t. lines_text (edge_rep_lines version (renumbered_edge_rep renumber r)) ++ t) (each-edge_rep version reps)
 
-  pub vertex_text : (d : VertexData) (points : List PointRep) → points ≡ d.points → lines_text (payload_lines 1 (renumbered_payload renumber (Vertex d))) ≡
+  pub vertex_text : (d : VertexData) (points : List PointRep) → points ≡ d.points
+      → lines_text (payload_lines 1 (renumbered_payload renumber (Vertex d))) ≡
       vertex_texts d.texts ++ (points_text points ++ codes "0 0\n")
   unfolding vertex_texts
   vertex_text d points same =
       ap (λ t. line_text (take 1 d.texts) ++ (line_text (drop 1 d.texts) ++ t))
       (flat_map-append line_text (map point_line (map (renumbered_point renumber) d.points)) _
       ∙ ap (λ t. t ++ codes "0 0\n") (each-point d.points ∙ ap points_text (sym same)))
-      ∙ sym (append_assoc (line_text (take 1 d.texts)) (line_text (drop 1 d.texts)) (points_text points ++ codes "0 0\n"))
+      ∙ sym (append_assoc (line_text (take 1 d.texts)) (line_text (drop 1 d.texts))
+      (points_text points ++ codes "0 0\n"))
 
-  pub edge_text : (version : ℕ) (d : EdgeData) (reps : List EdgeRep) → reps ≡ d.reps → lines_text (payload_lines version (renumbered_payload renumber (Edge d))) ≡
+  pub edge_text : (version : ℕ) (d : EdgeData) (reps : List EdgeRep) → reps ≡ d.reps
+      → lines_text (payload_lines version (renumbered_payload renumber (Edge d))) ≡
       line_text (d.tolerance ++ edge_flags d) ++ (edge_reps_text version reps ++ codes "0\n")
   edge_text version d reps same =
       ap (λ t. line_text (d.tolerance ++ edge_flags d) ++ t)

@@ -7,7 +7,8 @@ use Rattle.orientation.specs.declared.kind.Kind.TheVariants.{Ve, Ed, Wi, Fa, Sh,
 use Rattle.tshape_data.specs.Columns.{edge_columns}
 use Rattle.tshape_data.specs.Locations.{data_locations}
 use Rattle.tshape_data.specs.Reps.{form_of_edge, numbers_of_edge}
-use Rattle.tshape_data.specs.Sound.{AreInColumns, IsSoundEdge, IsSoundEdgeRep, IsSoundFace, IsSoundPayload, IsSoundPoint, IsSoundVertex}
+use Rattle.tshape_data.specs.Sound.{AreInColumns, IsSoundEdge, IsSoundEdgeRep, IsSoundFace, IsSoundPayload}
+use Rattle.tshape_data.specs.Sound.{IsSoundPoint, IsSoundVertex}
 use Rattle.tshape_data.specs.declared.head_bounds.HeadBounds.{HeadBounds}
 use Rattle.tshape_data.specs.declared.reps.EdgeRep.{EdgeRep}
 use Rattle.tshape_data.specs.declared.reps.EdgeRep.TheVariants as edge_reps
@@ -64,32 +65,49 @@ module _ (b : HeadBounds) (version : ℕ) where
   continuous (edge_reps.SeamPolygons a c mesh location) h = tt
 
   module _ (s : WrittenLocations) where
-    both : (locations : List ℕ) → All (λ place. place ≤ length s.section.now) locations → All (IsAdded s) locations → All (IsWritten s) locations
+    both : (locations : List ℕ) → All (λ place. place ≤ length s.section.now) locations → All (IsAdded s) locations
+        → All (IsWritten s) locations
     both locations within added k d lt = record { within = within k d lt; added = added k d lt }
 
-    vertex : (d : VertexData) → IsSoundVertex b d → All (IsWritten s) (data_locations version (Vertex d)) → IsWritablePayload s version (Vertex d)
+    vertex : (d : VertexData) → IsSoundVertex b d → All (IsWritten s) (data_locations version (Vertex d))
+        → IsWritablePayload s version (Vertex d)
     vertex d sound locations =
-        let each = all_within (IsWritten s) point_locations d.points (subst (All (IsWritten s)) (in_vertex version d) locations) in
+        let each = all_within (IsWritten s) point_locations d.points
+        (subst (All (IsWritten s)) (in_vertex version d) locations) in
         let all = All-from_recursion (IsSoundPoint b) d.points sound.points in
         (sound.decimals.0, (λ k p lt. record { texts = (all k p lt).decimals.0; locations = each k p lt }))
 
-    edge : (d : EdgeData) → IsSoundEdge b version d → All (IsWritten s) (data_locations version (Edge d)) → IsWritablePayload s version (Edge d)
+    edge : (d : EdgeData) → IsSoundEdge b version d → All (IsWritten s) (data_locations version (Edge d))
+        → IsWritablePayload s version (Edge d)
     edge d sound locations =
-        let each = all_within (IsWritten s) edge_locations d.reps (subst (All (IsWritten s)) (in_edge version d) locations) in
+        let each = all_within (IsWritten s) edge_locations d.reps
+        (subst (All (IsWritten s)) (in_edge version d) locations) in
         let all = All-from_recursion (IsSoundEdgeRep b version) d.reps sound.reps in (
           sound.decimals.0,
-          (λ k r lt. record { texts = (all k r lt).decimals.0; continuity = continuous (get_or d.reps k r) (all k r lt).numbers; locations = each k r lt }),
+          (λ k r lt. record {
+            texts = (all k r lt).decimals.0;
+            continuity = continuous (get_or d.reps k r) (all k r lt).numbers;
+            locations = each k r lt;
+          }),
         )
 
-    face : (d : FaceData) → IsSoundFace b d → All (IsWritten s) (data_locations version (Face d)) → IsWritablePayload s version (Face d)
-    face d sound locations = (sound.decimals.0, first (IsWritten s) d.location [] (subst (All (IsWritten s)) (in_face version d) locations))
+    face : (d : FaceData) → IsSoundFace b d → All (IsWritten s) (data_locations version (Face d))
+        → IsWritablePayload s version (Face d)
+    face d sound locations = (
+      sound.decimals.0,
+      first (IsWritten s) d.location []
+          (subst (All (IsWritten s)) (in_face version d) locations),
+    )
 
-    writable-each : (k : Kind) (p : Payload) → IsSoundPayload b version k p → All (IsWritten s) (data_locations version p) → IsWritablePayload s version p
+    writable-each : (k : Kind) (p : Payload) → IsSoundPayload b version k p
+        → All (IsWritten s) (data_locations version p) → IsWritablePayload s version p
     writable-each k (Vertex d) h locations = vertex d (sound-vertex k d h) locations
     writable-each k (Edge d) h locations = edge d (sound-edge k d h) locations
     writable-each k (Face d) h locations = face d (sound-face k d h) locations
     writable-each k Nothing h locations = tt
 
-    pub writable : (k : Kind) (p : Payload) → IsSoundPayload b version k p → All (λ place. place ≤ length s.section.now) (data_locations version p) → All (IsAdded s) (data_locations version p) →
+    pub writable : (k : Kind) (p : Payload) → IsSoundPayload b version k p
+        → All (λ place. place ≤ length s.section.now) (data_locations version p)
+        → All (IsAdded s) (data_locations version p) →
         IsWritablePayload s version p
     writable k p h within added = writable-each k p h (both (data_locations version p) within added)

@@ -6,7 +6,8 @@ ghost use Rattle.std.specs.Prelude.{◌≡◌, ◌<◌, ◌≤◌, ◌∷◌, �
 ghost use Rattle.tshape_data.specs.Columns.{HasContinuity, IsPolygonal, edge_number, edge_texts, p_curve_texts};
 ghost use Rattle.tshape_data.specs.Reps.{form_of_edge, texts_of_edge};
 ghost use Rattle.written_heads.specs.Named.{edge_locations};
-ghost use Rattle.written_heads.specs.Words.{IsContinuous, IsWritableEdge, IsWritten, decimals_text, parameters_text, spaced, written_edge_rep, written_numbers};
+ghost use Rattle.written_heads.specs.Words.{IsContinuous, IsWritableEdge, IsWritten, decimals_text, parameters_text};
+ghost use Rattle.written_heads.specs.Words.{spaced, written_edge_rep, written_numbers};
 ghost use Rattle.written_locations.specs.Added.{IsNumbering};
 
 use crate::fields::{continuity_word, push_decimal, push_entries, push_located};

@@ -8,7 +8,8 @@ ghost use Rattle.tshape_data.specs.Sound.{IsSoundHead};
 ghost use Rattle.tshape_data.specs.declared.head_bounds.HeadBounds.{HeadBounds};
 ghost use Rattle.tshape_data.specs.declared.head.Payload.TheVariants.{Edge, Face, Vertex};
 ghost use Rattle.written_heads.specs.Named.{AreInSection};
-ghost use Rattle.written_heads.specs.Words.{IsWritableEdge, IsWritablePayload, IsWritablePoint, IsWritten, vertex_texts, written_head, written_payload};
+ghost use Rattle.written_heads.specs.Words.{IsWritableEdge, IsWritablePayload, IsWritablePoint, IsWritten};
+ghost use Rattle.written_heads.specs.Words.{vertex_texts, written_head, written_payload};
 ghost use Rattle.written_locations.specs.Added.{IsAdded, IsNumbering};
 
 use crate::edges::push_edge_reps;
@@ -135,8 +136,8 @@ fn push_payload(
     }
 }
 
-/// Appends the lines of a record's head in a file of a version: its kind, its data, an empty line and its flags. The locations in
-/// its data have the numbers of the words that were added.
+/// Appends the lines of a record's head in a file of a version: its kind, its data, an empty line and its flags. The
+/// locations in its data have the numbers of the words that were added.
 pub fn push_head(
     text: &mut Vec<u8>,
     head: &Head,

@@ -25,4 +25,5 @@ pub returns-in-PolygonOn : goal.returns-in-PolygonOn
 returns-in-PolygonOn c = sym (ap (λ (r : EdgeRep). decimal (edge_number (form_of_edge r))) c.in-PolygonOn.is ∙ digit_6)
 
 pub returns-in-SeamPolygons : goal.returns-in-SeamPolygons
-returns-in-SeamPolygons c = sym (ap (λ (r : EdgeRep). decimal (edge_number (form_of_edge r))) c.in-SeamPolygons.is ∙ digit_7)
+returns-in-SeamPolygons c =
+    sym (ap (λ (r : EdgeRep). decimal (edge_number (form_of_edge r))) c.in-SeamPolygons.is ∙ digit_7)

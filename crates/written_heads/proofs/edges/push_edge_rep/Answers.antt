@@ -11,5 +11,7 @@ pub returns : goal.returns
 returns c =
     let renumber = location_number c.args.locations.now in
     let r = c.args.rep.now in
-    let e = edge_rep_text renumber c.args.version r ∙ ap (λ t. t ++ (spaced (number_words (renumbered_edge_rep renumber r)) ++ parameters_text c.args.version r)) (sym c.form_digit.ensures) in
+    let e = edge_rep_text renumber c.args.version r
+    ∙ ap (λ t. t ++ (spaced (number_words (renumbered_edge_rep renumber r)) ++ parameters_text c.args.version r))
+    (sym c.form_digit.ensures) in
     rw e (grind (arith, common_steps))

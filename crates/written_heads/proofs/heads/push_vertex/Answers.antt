@@ -6,5 +6,6 @@ use Rattle.written_heads.proofs.heads.push_vertex.Goals as goal
 
 pub returns : goal.returns
 returns c =
-    let e = vertex_text (location_number c.args.locations.now) c.args.vertex.now c.as_slice.result.now c.as_slice.ensures in
+    let e = vertex_text (location_number c.args.locations.now) c.args.vertex.now c.as_slice.result.now
+    c.as_slice.ensures in
     rw e (grind (arith, common_steps))

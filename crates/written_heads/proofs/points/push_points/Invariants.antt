@@ -4,4 +4,5 @@ use Rattle.written_heads.specs.Words.{written_point}
 use Rattle.written_heads.proofs.points.push_points.Given as goal
 
 abbrev pub invariant-loop-point : goal.invariant-loop-point
-invariant-loop-point l = l.text.items ≡ l.initial.text.items ++ flat_map (written_point l.locations) (take l.point-index l.points)
+invariant-loop-point l = l.text.items ≡ l.initial.text.items ++ flat_map (written_point l.locations)
+    (take l.point-index l.points)

@@ -1,6 +1,6 @@
 -- A token is due at each word.
 use Rattle.tshape_data.specs.HeadLeft.{IsWaiting}
-use Rattle.table_rows.proofs.heads.head.Given as goal
+use Rattle.head_rows.proofs.heads.head.Given as goal
 
 abbrev pub invariant-loop-word : goal.invariant-loop-word
 invariant-loop-word l =

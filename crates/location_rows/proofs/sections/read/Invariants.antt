@@ -1,6 +1,6 @@
 -- Tokens are due.
 use Rattle.location_table.specs.SectionLeft.{IsReading}
-use Rattle.table_rows.proofs.locations.read.Given as goal
+use Rattle.location_rows.proofs.sections.read.Given as goal
 
 abbrev pub invariant-loop-word : goal.invariant-loop-word
 invariant-loop-word l = IsReading l.reader

@@ -1,6 +1,10 @@
-use crate::same::same;
 use graph_walks::{Found, Graph, has_cycle, ranks, search};
 use std::test::Fail;
+
+/// Are these the nodes?
+fn are(nodes: &[u32], want: &[u32]) -> bool {
+    *nodes == *want
+}
 
 #[test]
 fn an_order_is_ranked(rt: HostRuntime) -> Result<(), Fail> {
@@ -15,16 +19,16 @@ fn an_order_is_ranked(rt: HostRuntime) -> Result<(), Fail> {
     graph.add_node()?;
     graph.add_node()?;
     graph.add_end(0)?;
-    same(&rt, &graph.len(), &4);
-    same(&rt, &graph.ends(0), &[1, 2].as_slice());
-    same(&rt, &graph.ends(1), &[2].as_slice());
-    assert!(rt; graph.ends(2).is_empty());
-    same(&rt, &graph.ends(3), &[0].as_slice());
+    assert!(rt; graph.len() == 4);
+    assert!(rt; are(graph.ends(0), &[1, 2]));
+    assert!(rt; are(graph.ends(1), &[2]));
+    assert!(rt; are(graph.ends(2), &[]));
+    assert!(rt; are(graph.ends(3), &[0]));
     assert!(rt; !has_cycle(rt.alloc(), &graph, 0)?);
     if let Found::Order(order) = search(rt.alloc(), &graph, 0)? {
-        same(&rt, &order.as_slice(), &[2, 1, 0].as_slice());
+        assert!(rt; are(order.as_slice(), &[2, 1, 0]));
         let ranks = ranks(rt.alloc(), &graph, &order)?;
-        same(&rt, &ranks.as_slice(), &[2, 1, 0, 0].as_slice());
+        assert!(rt; ranks.as_slice() == [2, 1, 0, 0].as_slice());
     } else {
         assert!(rt; false);
     }
@@ -45,13 +49,13 @@ fn the_first_cycle_is_found(rt: HostRuntime) -> Result<(), Fail> {
     graph.add_node()?;
     assert!(rt; has_cycle(rt.alloc(), &graph, 0)?);
     if let Found::Cycle(walk) = search(rt.alloc(), &graph, 0)? {
-        same(&rt, &walk.as_slice(), &[1, 2, 1].as_slice());
+        assert!(rt; are(walk.as_slice(), &[1, 2, 1]));
     } else {
         assert!(rt; false);
     }
     assert!(rt; !has_cycle(rt.alloc(), &graph, 3)?);
     if let Found::Order(order) = search(rt.alloc(), &graph, 3)? {
-        same(&rt, &order.as_slice(), &[3].as_slice());
+        assert!(rt; are(order.as_slice(), &[3]));
     } else {
         assert!(rt; false);
     }

@@ -1,0 +1,5 @@
+//! Tests of the table of locations.
+#![tactic(auto)]
+
+#[cfg(test)]
+mod sections;

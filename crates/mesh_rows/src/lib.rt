@@ -1,0 +1,5 @@
+//! Tests of the tables of meshes and of polygons.
+#![tactic(auto)]
+
+#[cfg(test)]
+mod meshes;
