@@ -7,3 +7,5 @@ mod faults;
 mod reads;
 #[cfg(test)]
 mod same;
+#[cfg(test)]
+mod written_histories;
