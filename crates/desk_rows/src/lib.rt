@@ -3,5 +3,3 @@
 
 #[cfg(test)]
 mod desks_in_memory;
-#[cfg(test)]
-mod same;

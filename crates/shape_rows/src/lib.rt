@@ -3,5 +3,3 @@
 
 #[cfg(test)]
 mod pools;
-#[cfg(test)]
-mod same;

@@ -1,7 +1,6 @@
 ghost use Rattle.std.specs.Prelude.{◌≡◌, ◌<◌, ◌≤◌, length, IfOk};
 ghost use Rattle.shape_pool.specs.Rows.{kind_at, AllBelow, AllHeld};
 
-use crate::same::same;
 use brep_desk::Steps;
 use location_words::WordId;
 use orientation::{Kind, Turn};
@@ -97,51 +96,43 @@ fn refuses_what_is_too_deep(rt: HostRuntime) -> Result<(), Fail> {
     for _ in 1..512 {
         id = pool.wrap(&[use_of(id)]).ok().ok_or("deep")?;
     }
-    same(&rt, &pool.depth(id), &512);
-    same(
-        &rt,
-        &pool.wrap(&[use_of(id)]),
-        &Err(PoolFault::TooDeep(513)),
-    );
-    same(
-        &rt,
-        &load_over(&mut pool, 7, id)?,
-        &Err(PoolFault::TooDeep(513)),
-    );
-    same(&rt, &pool.named(7), &None);
-    same(&rt, &pool.mark(), &512);
+    assert!(rt; pool.depth(id) == 512);
+    assert!(rt; pool.wrap(&[use_of(id)]) == Err(PoolFault::TooDeep(513)));
+    assert!(rt; load_over(&mut pool, 7, id)? == Err(PoolFault::TooDeep(513)));
+    assert!(rt; pool.named(7) == None);
+    assert!(rt; pool.mark() == 512);
     Ok(())
 }
 
 #[test]
 fn finds_only_what_is_held(rt: HostRuntime) -> Result<(), Fail> {
     let mut pool = Pool::new(rt.alloc())?;
-    same(&rt, &pool.find(0, &[])?, &None);
+    assert!(rt; pool.find(0, &[])? == None);
     let leaf = pool.wrap(&[]).ok().ok_or("leaf")?;
-    same(&rt, &pool.find(0, &[])?, &Some(leaf));
-    same(&rt, &pool.find(0, &[use_of(leaf)])?, &None);
-    same(&rt, &pool.find(1, &[])?, &None);
-    same(&rt, &pool.mark(), &1);
+    assert!(rt; pool.find(0, &[])? == Some(leaf));
+    assert!(rt; pool.find(0, &[use_of(leaf)])? == None);
+    assert!(rt; pool.find(1, &[])? == None);
+    assert!(rt; pool.mark() == 1);
     Ok(())
 }
 
 #[test]
 fn goes_back_and_loads_again(rt: HostRuntime) -> Result<(), Fail> {
     let mut pool = Pool::new(rt.alloc())?;
-    same(&rt, &pool.named(0), &None);
+    assert!(rt; pool.named(0) == None);
     let first = load_vertex(&mut pool, 1)?;
     let mark = pool.mark();
     let second = load_vertex(&mut pool, 2)?;
-    same(&rt, &pool.named(2), &Some(second));
+    assert!(rt; pool.named(2) == Some(second));
     pool.back(mark);
-    same(&rt, &pool.named(2), &None);
-    same(&rt, &pool.named(1), &Some(first));
+    assert!(rt; pool.named(2) == None);
+    assert!(rt; pool.named(1) == Some(first));
     let third = load_vertex(&mut pool, 3)?;
-    same(&rt, &third, &second);
-    same(&rt, &pool.named(2), &None);
+    assert!(rt; third == second);
+    assert!(rt; pool.named(2) == None);
     let again = load_vertex(&mut pool, 2)?;
-    same(&rt, &again, &NodeId(2));
-    same(&rt, &pool.named(2), &Some(again));
+    assert!(rt; again == NodeId(2));
+    assert!(rt; pool.named(2) == Some(again));
     Ok(())
 }
 
@@ -152,8 +143,8 @@ fn rebuilds_to_a_held_node(rt: HostRuntime) -> Result<(), Fail> {
     let over = pool.wrap(&[use_of(leaf), use_of(leaf)]).ok().ok_or("over")?;
     let none: [UseOf; 0] = [];
     let emptied = rebuilt_once(&mut pool, over, &none)?;
-    same(&rt, &emptied, &leaf);
-    same(&rt, &pool.mark(), &2);
+    assert!(rt; emptied == leaf);
+    assert!(rt; pool.mark() == 2);
     Ok(())
 }
 
@@ -165,21 +156,17 @@ fn rebuilds_to_a_loaded_node_and_back(rt: HostRuntime) -> Result<(), Fail> {
     let mark = pool.mark();
     let none: [UseOf; 0] = [];
     let emptied = rebuilt_once(&mut pool, loaded, &none)?;
-    same(&rt, &emptied, &NodeId(2));
-    same(&rt, &pool.named(2), &Some(loaded));
+    assert!(rt; emptied == NodeId(2));
+    assert!(rt; pool.named(2) == Some(loaded));
     if pool.kind(emptied) != Kind::Co {
         return Err(Fail::from("kind"));
     }
-    same(
-        &rt,
-        &rebuilt_once(&mut pool, emptied, &[use_of(leaf)])?,
-        &loaded,
-    );
-    same(&rt, &pool.mark(), &3);
+    assert!(rt; rebuilt_once(&mut pool, emptied, &[use_of(leaf)])? == loaded);
+    assert!(rt; pool.mark() == 3);
     pool.back(mark);
-    same(&rt, &pool.find(2, &none)?, &None);
-    same(&rt, &pool.find(2, &[use_of(leaf)])?, &Some(loaded));
-    same(&rt, &rebuilt_once(&mut pool, loaded, &none)?, &NodeId(2));
+    assert!(rt; pool.find(2, &none)? == None);
+    assert!(rt; pool.find(2, &[use_of(leaf)])? == Some(loaded));
+    assert!(rt; rebuilt_once(&mut pool, loaded, &none)? == NodeId(2));
     Ok(())
 }
 
@@ -188,7 +175,7 @@ fn tells_trees_apart(rt: HostRuntime) -> Result<(), Fail> {
     let mut pool = Pool::new(rt.alloc())?;
     let one = load_vertex(&mut pool, 1)?;
     let two = load_vertex(&mut pool, 2)?;
-    same(&rt, &two, &NodeId(1));
+    assert!(rt; two == NodeId(1));
     for (turn, place, swapped, want) in [
         (Turn::Forward, 0, false, 2),
         (Turn::Reversed, 0, false, 3),
@@ -207,7 +194,7 @@ fn tells_trees_apart(rt: HostRuntime) -> Result<(), Fail> {
         } else {
             wrap_two(&mut pool, first, use_of(two))
         };
-        same(&rt, &made, &Ok(NodeId(want)));
+        assert!(rt; made == Ok(NodeId(want)));
     }
     Ok(())
 }
@@ -217,13 +204,13 @@ fn keeps_lists_of_numbers(rt: HostRuntime) -> Result<(), Fail> {
     let mut ids = Ids::new(rt.alloc());
     ids.push(NodeId(4))?;
     ids.push(NodeId(2))?;
-    same(&rt, &ids.len(), &2);
-    same(&rt, &ids.get(1), &Some(&NodeId(2)));
-    same(&rt, &ids.get(2), &None);
+    assert!(rt; ids.len() == 2);
+    assert!(rt; ids.get(1) == Some(&NodeId(2)));
+    assert!(rt; ids.get(2) == None);
     assert!(rt; ids.as_slice()[1] < ids.as_slice()[0]);
     let mut pairs = IdPairs::new(rt.alloc());
     assert!(rt; pairs.is_empty());
     pairs.push((NodeId(4), NodeId(2)))?;
-    same(&rt, &pairs.get(0), &Some(&(NodeId(4), NodeId(2))));
+    assert!(rt; pairs.get(0) == Some(&(NodeId(4), NodeId(2))));
     Ok(())
 }
