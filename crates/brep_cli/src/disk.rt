@@ -43,7 +43,8 @@ impl<'a> DiskDesk<'a> {
         }
     }
 
-    /// A new channel, closed. It is kept before anything is opened for it, so that want of memory leaves a file as it was.
+    /// A new channel, closed. It is kept before anything is opened for it, so that want of memory leaves a file as it
+    /// was.
     fn new_slot(&mut self) -> Result<Chan, Failed>
         ensures { HasCause self.old.faults self.new.faults result }
     {
@@ -84,7 +85,14 @@ impl Desk for DiskDesk<'_> {
 
     ghost shows = { λ _. shows_nothing };
 
-    ghost told = { record { held = λ h. h; left = λ h. h; written = λ h. h; ended = λ h. h; strays = λ h. h; writing_calls = λ h. h } };
+    ghost told = { record {
+      held = λ h. h;
+      left = λ h. h;
+      written = λ h. h;
+      ended = λ h. h;
+      strays = λ h. h;
+      writing_calls = λ h. h;
+    } };
 
     fn begin_read(&mut self, name: &str) -> Result<Chan, Failed> {
         let c = self.new_slot()?;

@@ -1,6 +1,5 @@
 //! Names with their bytes, kept in memory: those that are held, and those that were written.
-ghost use Rattle.std.specs.Prelude.{◌≡◌, ℕ, List, ◌<◌, [], ◌++◌, length, IfSome, IfNone};
-ghost use Rattle.std.specs.Prelude.{OnOk, OnErr, IfOk, unwrap_or, None, Some, true, false};
+ghost use Rattle.std.specs.Prelude.{◌≡◌, ◌<◌, [], length, IfSome, IfNone, OnOk, OnErr, IfOk, None, Some, true, false};
 ghost use Rattle.brep_desk.specs.Shown.{ChangesOnly};
 ghost use Rattle.brep_desk.specs.Kept.{held_in, written_in, ended_in, Shows, IsPlace, IsBegun, Empties, Appends};
 

@@ -5,12 +5,14 @@ use Rattle.brep_desk.specs.Causes.{Rose}
 use Rattle.brep_desk.specs.WritingCalls.{KeepsWritingCalls, RoseWritingCalls}
 use Rattle.brep_run.specs.Outcomes.{OnWriting}
 use Rattle.brep_run.specs.declared.outcome.Outcome.{Outcome}
-use Rattle.brep_run.specs.declared.outcome.Outcome.TheVariants.{Done, Usage, NotBuilt, File, Script, Limit, ReadDesk, WriteDesk, NoMemory}
+use Rattle.brep_run.specs.declared.outcome.Outcome.TheVariants.{Done, Usage, NotBuilt, File, Script}
+use Rattle.brep_run.specs.declared.outcome.Outcome.TheVariants.{Limit, ReadDesk, WriteDesk, NoMemory}
 
 pub kept-rose : (t : Tells) (x y z : Shown) → KeepsWritingCalls t x y → RoseWritingCalls t y z → RoseWritingCalls t x z
 kept-rose t x y z kept rose told = subst (λ (n : ℕ). Rose n z.writing_calls) (kept told) (rose told)
 
-pub kept-kept : (t : Tells) (x y z : Shown) → KeepsWritingCalls t x y → KeepsWritingCalls t y z → KeepsWritingCalls t x z
+pub kept-kept : (t : Tells) (x y z : Shown) → KeepsWritingCalls t x y → KeepsWritingCalls t y z
+    → KeepsWritingCalls t x z
 kept-kept t x y z first second told = second told ∙ first told
 
 -- what holds in any case holds after each outcome of writing
@@ -26,5 +28,7 @@ on-writing (WriteDesk before after file taken) P p = p
 on-writing NoMemory P p = tt
 
 -- two reads, and then a writing
-pub rose-after_reads : (t : Tells) (x y z w : Shown) (o : Outcome) → KeepsWritingCalls t x y → KeepsWritingCalls t y z → RoseWritingCalls t z w → OnWriting o (RoseWritingCalls t x w)
-rose-after_reads t x y z w o first second rose = on-writing o (RoseWritingCalls t x w) (kept-rose t x z w (kept-kept t x y z first second) rose)
+pub rose-after_reads : (t : Tells) (x y z w : Shown) (o : Outcome) → KeepsWritingCalls t x y → KeepsWritingCalls t y z
+    → RoseWritingCalls t z w → OnWriting o (RoseWritingCalls t x w)
+rose-after_reads t x y z w o first second rose =
+    on-writing o (RoseWritingCalls t x w) (kept-rose t x z w (kept-kept t x y z first second) rose)

@@ -1,4 +1,5 @@
--- A copy that is done spells one file, which stands for the expansion of the file that was read and shares what is equal.
+-- A copy that is done spells one file, which stands for the expansion of the file that was read and shares what is
+-- equal.
 use Rattle.std.proofs.Common.{◌≡◌, ℕ, length, List, Some, map, refl, sym, ap, subst, ◌∙◌}
 use Rattle.std.proofs.lemmas.List.{length-map}
 use Rattle.brep_desk.specs.Shown.{Shown, Tells}
@@ -20,7 +21,8 @@ some-same : {A : Type 0} (x y : A) → Some x ≡ Some y → x ≡ y
 some-same x y e = cc
 
 module _ (stand : TextsStandForRoots) (t : Tells) (old new : Shown) (source target : List ℕ) where
-  pub copy-expands : ((text : List ℕ) × IsDue t old source text × OutWritten t old new target text) → WrittenExpands t new target (IsCopiedRoot old source)
+  pub copy-expands : ((text : List ℕ) × IsDue t old source text × OutWritten t old new target text)
+      → WrittenExpands t new target (IsCopiedRoot old source)
   copy-expands done text held written is =
       let read = done.1 held in
       let f : File = read.1 in
@@ -32,9 +34,11 @@ module _ (stand : TextsStandForRoots) (t : Tells) (old new : Shown) (source targ
       (f, expansion_of f, (file, refl), subst (λ x. IsTextFor f (expansion_of f) x) same whole)
 
 -- two occurrences in a file whose records are trees apart
-module _ (g : File) (root : Use) (are : RecordsAreTrees (plain_records g)) (in_file : IsNumberOf (length (plain_records g)) g.root.number)
+module _ (g : File) (root : Use) (are : RecordsAreTrees (plain_records g))
+    (in_file : IsNumberOf (length (plain_records g)) g.root.number)
     (apart : (j k : ℕ) → IsNumberOf (length (plain_records g)) j → IsNumberOf (length (plain_records g)) k →
-    with_origins (origins_of (flat root.tree)) (tree_of_number (plain_records g) j) ≡ with_origins (origins_of (flat root.tree)) (tree_of_number (plain_records g) k) → j ≡ k) where
+    with_origins (origins_of (flat root.tree)) (tree_of_number (plain_records g) j)
+    ≡ with_origins (origins_of (flat root.tree)) (tree_of_number (plain_records g) k) → j ≡ k) where
   pub equal_trees_share : SharesEqualTrees root g
   equal_trees_share x y of_x of_y =
       let x_is = are.below g.root.number x in_file of_x in
@@ -45,17 +49,20 @@ module _ (g : File) (root : Use) (are : RecordsAreTrees (plain_records g)) (in_f
       )
 
 module _ (are : (g : File) → IsSound g → RecordsAreTrees (plain_records g)) where
-  pub shared_in : (f : File) (root : Use) (g : File) (text : List ℕ) → IsTextFor f root text → Spells text g → SharesEqualTrees root g
+  pub shared_in : (f : File) (root : Use) (g : File) (text : List ℕ) → IsTextFor f root text → Spells text g
+      → SharesEqualTrees root g
   shared_in f root g text whole spells =
       let first = whole.spelled in
       let shared : SharesEqualTrees root first.0 =
       equal_trees_share first.0 root (are first.0 first.1.sound)
-      (subst (λ n. IsNumberOf n first.0.root.number) (sym (length-map first.0.records (λ r. map (plain_use first.0.locations) r.uses))) first.1.sound.root)
+      (subst (λ n. IsNumberOf n first.0.root.number)
+      (sym (length-map first.0.records (λ r. map (plain_use first.0.locations) r.uses))) first.1.sound.root)
       first.2.shared.apart in
       subst (λ h. SharesEqualTrees root h) (whole.one first.0 g first.1 spells) shared
 
   -- where the written text stands for a root, what is equal in the root is shared in the file
-  pub expands-shares : (t : Tells) (new : Shown) (target : List ℕ) (IsRoot : File → Use → Type 0) → WrittenExpands t new target IsRoot → WrittenShares t new target IsRoot
+  pub expands-shares : (t : Tells) (new : Shown) (target : List ℕ) (IsRoot : File → Use → Type 0)
+      → WrittenExpands t new target IsRoot → WrittenShares t new target IsRoot
   expands-shares t new target IsRoot expands text g held written is spells =
       let made = expands text held written is in
       (made.0, made.1, made.2, shared_in made.0 made.1 g text made.3 spells)

@@ -1,6 +1,7 @@
 -- The expansion of a sound file can be written.
 use Rattle.std.proofs.Common.{◌≡◌, ◌<◌, ◌≤◌, ◌-◌, refl, sym, ◌∙◌, ap, subst, arith, inl, inr}
-use Rattle.std.specs.Prelude.{ℕ, ◌^◌, Bool, true, false, if◌then◌else◌, Option, Some, List, [], ◌∷◌, map, length, Contains, slice_get}
+use Rattle.std.specs.Prelude.{ℕ, ◌^◌, Bool, true, false, if◌then◌else◌, Option, Some}
+use Rattle.std.specs.Prelude.{List, [], ◌∷◌, map, length, Contains, slice_get}
 use Rattle.std.specs.List.{flat_map}
 use Rattle.std.specs.Option.{option_map_or}
 use Rattle.std.proofs.lemmas.List.{length-map}
@@ -47,7 +48,8 @@ mutual
   own_uses-origins (a_use t w x others) = λ i. a_use t w (own-origins x i) (own_uses-origins others i)
 
 -- a head has the kind of the record that it was made from
-kind-chosen : (same : Bool) (r : Record) → (option_map_or (λ (s : Record). if same then s.head else rebuilt s.head) (Some r) made_head).kind ≡ r.head.kind
+kind-chosen : (same : Bool) (r : Record)
+    → (option_map_or (λ (s : Record). if same then s.head else rebuilt s.head) (Some r) made_head).kind ≡ r.head.kind
 kind-chosen true r = refl
 kind-chosen false r = refl
 
@@ -59,18 +61,23 @@ module _ (f : File) where
   count-plain = length-map f.records uses_of_record
 
   pub record-at : (k : ℕ) → IsNumberOf (length f.records) k → (r : Record) × (record_of f k ≡ Some r)
-  record-at k n = (let low = n.0 in let high = n.1 in at_place f.records (length f.records - k) (omega (arith, low, high)))
+  record-at k n =
+      (let low = n.0 in let high = n.1 in at_place f.records (length f.records - k) (omega (arith, low, high)))
 
-  pub plain-at : (k : ℕ) (r : Record) → record_of f k ≡ Some r → slice_get (plain_records f) (length (plain_records f) - k) ≡ Some (uses_of_record r)
+  pub plain-at : (k : ℕ) (r : Record) → record_of f k ≡ Some r
+      → slice_get (plain_records f) (length (plain_records f) - k) ≡ Some (uses_of_record r)
   plain-at k r e = map-from_end uses_of_record f.records k r e
 
   pub kind-for : (x : Tree) (r : Record) → record_of f (origin x) ≡ Some r → (head_for f x).kind ≡ r.head.kind
   kind-for x r e =
-      ap (λ (o : Option Record). (option_map_or (λ (s : Record). if tree_eq x (tree_of_record f (origin x)) then s.head else rebuilt s.head) o made_head).kind) e
+      ap (λ (o : Option Record). (option_map_or
+      (λ (s : Record). if tree_eq x (tree_of_record f (origin x)) then s.head else rebuilt s.head) o
+      made_head).kind) e
       ∙ kind-chosen (tree_eq x (tree_of_record f (origin x))) r
 
   module _ (sound : IsSound f) where
-    names-sound : (k : ℕ) (us : List NumberedUse) → IsNumberOf (length (plain_records f)) k → slice_get (plain_records f) (length (plain_records f) - k) ≡ Some us →
+    names-sound : (k : ℕ) (us : List NumberedUse) → IsNumberOf (length (plain_records f)) k
+        → slice_get (plain_records f) (length (plain_records f) - k) ≡ Some us →
         NamesAboveIts (length (plain_records f)) k us
     names-sound k us n e =
         let number : IsNumberOf (length f.records) k = subst (λ j. IsNumberOf j k) count-plain n in
@@ -78,9 +85,11 @@ module _ (f : File) where
         let named = (sound.records k at.0 number at.1).uses in
         let here : NamesAboveIts (length f.records) k (uses_of_record at.0) =
         All-map (λ (v : NumberedUse). (k < v.number) × (v.number ≤ length f.records)) (plain_use f.locations) at.0.uses
-        (All-weaker (IsUse f k at.0.head.kind) (λ u. (k < u.number) × (u.number ≤ length f.records)) (λ u is. (is.above, is.named)) at.0.uses named) in
+        (All-weaker (IsUse f k at.0.head.kind) (λ u. (k < u.number) × (u.number ≤ length f.records))
+        (λ u is. (is.above, is.named)) at.0.uses named) in
         subst (λ j. NamesAboveIts j k us) (sym count-plain)
-        (subst (NamesAboveIts (length f.records) k) (same_Some (uses_of_record at.0) us (sym (plain-at k at.0 at.1) ∙ e)) here)
+        (subst (NamesAboveIts (length f.records) k)
+        (same_Some (uses_of_record at.0) us (sym (plain-at k at.0 at.1) ∙ e)) here)
 
     pub file-sound : IsFile (plain_records f) (plain_root f)
     file-sound = record {
@@ -111,25 +120,32 @@ module _ (f : File) where
       comes-from x u stands m =
           let at = record-at (origin x) stands.number in
           let listed : uses x ≡ map (expanded 1 (trees_of_file (plain_records f))) (uses_of_record at.0) =
-          ap uses stands.tree ∙ walk.same_uses (origin x) (uses_of_record at.0) (subst (λ j. IsNumberOf j (origin x)) (sym count-plain) stands.number) (plain-at (origin x) at.0 at.1) in
-          let plain = Contains-map_cases (expanded 1 (trees_of_file (plain_records f))) u (uses_of_record at.0) (subst (λ l. Contains l u) listed m) in
+          ap uses stands.tree ∙ walk.same_uses (origin x) (uses_of_record at.0)
+          (subst (λ j. IsNumberOf j (origin x)) (sym count-plain) stands.number) (plain-at (origin x) at.0 at.1) in
+          let plain =
+          Contains-map_cases (expanded 1 (trees_of_file (plain_records f))) u (uses_of_record at.0)
+          (subst (λ l. Contains l u) listed m) in
           let from = Contains-map_cases (plain_use f.locations) plain.0 at.0.uses plain.1 in
           record {
             own = at.0;
             is_own = at.1;
             file_use = from.0;
-            is_use = All-contains (IsUse f (origin x) at.0.head.kind) at.0.uses from.0 (sound.records (origin x) at.0 stands.number at.1).uses from.1;
+            is_use =
+                All-contains (IsUse f (origin x) at.0.head.kind) at.0.uses from.0
+                (sound.records (origin x) at.0 stands.number at.1).uses from.1;
             is = ap (expanded 1 (trees_of_file (plain_records f))) from.2 ∙ plain.2;
           }
 
-      in-order : (x : Tree) (u : Use) → Contains (subtrees (expansion_of f).tree) x → Contains (uses x) u → IsBelow (head_for f u.tree).kind (head_for f x).kind
+      in-order : (x : Tree) (u : Use) → Contains (subtrees (expansion_of f).tree) x → Contains (uses x) u
+          → IsBelow (head_for f u.tree).kind (head_for f x).kind
       in-order x u m k =
           let stands = stands-below x m in
           let c = comes-from x u stands k in
           let low = c.is_use.above in
           let number : IsNumberOf (length f.records) c.file_use.number = (omega (arith, low), c.is_use.named) in
           let named : origin u.tree ≡ c.file_use.number =
-          ap (λ (v : Use). origin v.tree) (sym c.is) ∙ walk.origins c.file_use.number (subst (λ j. IsNumberOf j c.file_use.number) (sym count-plain) number) in
+          ap (λ (v : Use). origin v.tree) (sym c.is)
+          ∙ walk.origins c.file_use.number (subst (λ j. IsNumberOf j c.file_use.number) (sym count-plain) number) in
           let child = record-at c.file_use.number number in
           subst (λ a. IsBelow a (head_for f x).kind) (sym (kind-for u.tree child.0 (ap (record_of f) named ∙ child.1)))
           (subst (IsBelow child.0.head.kind) (sym (kind-for x c.own c.is_own)) (c.is_use.in_order child.0 child.1))
@@ -143,26 +159,38 @@ module _ (f : File) where
           let count = count-plain in
           omega (arith, low, high, count)
 
-      module _ (renumbering : RenumberingKeepsParts) (places : PlacesHaveWords) (laws : WritingLaws) (written : IsWritten (expansion_of f) (flat (expansion_of f).tree)) where
+      module _ (renumbering : RenumberingKeepsParts) (places : PlacesHaveWords) (laws : WritingLaws)
+          (written : IsWritten (expansion_of f) (flat (expansion_of f).tree)) where
         -- the words under the root are words of places
-        use-place : (x : Tree) (u : Use) → Contains (subtrees (expansion_of f).tree) x → Contains (uses x) u → (k : ℕ) × (k ≤ length f.locations) × (word_of_place f.locations k ≡ u.word)
-        use-place x u m k = (let c = comes-from x u (stands-below x m) k in (c.file_use.location, c.is_use.location, ap (λ (v : Use). v.word) c.is))
+        use-place : (x : Tree) (u : Use) → Contains (subtrees (expansion_of f).tree) x → Contains (uses x) u
+            → (k : ℕ) × (k ≤ length f.locations) × (word_of_place f.locations k ≡ u.word)
+        use-place x u m k =
+            (let c = comes-from x u (stands-below x m) k in
+            (c.file_use.location, c.is_use.location, ap (λ (v : Use). v.word) c.is))
 
-        word-of_place : (w : List Pair) → Contains (words_under f (expansion_of f)) w → Contains (words_of f.locations) w
-        word-of_place w m = elim (Contains-append_cases (flat_map (words_of_tree f) (flat (expansion_of f).tree)) ((expansion_of f).word ∷ []) w m) [
-          | inl k ↦ (let from = Contains-flat_map_cases (words_of_tree f) w (flat (expansion_of f).tree) k in
-              elim (Contains-append_cases (words_of_data f (head_for f from.0)) (map (λ (v : Use). v.word) (uses from.0)) w from.2) [
-                | inl own ↦ (let of = Contains-map_cases (word_of_place f.locations) w (data_locations f.version (head_for f from.0).payload) own in
-                    subst (Contains (words_of f.locations)) of.2 (laws.sections.word f.locations of.0 (data-within renumbering f sound from.0 of.0 of.1)))
-                | inr l ↦ (let used = Contains-map_cases (λ (v : Use). v.word) w (uses from.0) l in
-                    let place = use-place from.0 used.0 (written.lists.stand from.0 from.1) used.1 in
-                    subst (Contains (words_of f.locations)) (place.2 ∙ used.2) (laws.sections.word f.locations place.0 place.1))
-              ])
-          | inr k ↦ elim (Contains-cases (expansion_of f).word w [] k) [
-            | inl same ↦ subst (Contains (words_of f.locations)) same (laws.sections.word f.locations f.root.location sound.root_location)
-            | inr none ↦ absurd (Contains-none w none)
-          ]
-        ]
+        word-of_place : (w : List Pair) → Contains (words_under f (expansion_of f)) w
+            → Contains (words_of f.locations) w
+        word-of_place w m =
+            elim (Contains-append_cases (flat_map (words_of_tree f) (flat (expansion_of f).tree))
+            ((expansion_of f).word ∷ []) w m) [
+              | inl k ↦ (let from = Contains-flat_map_cases (words_of_tree f) w (flat (expansion_of f).tree) k in
+                  elim (Contains-append_cases (words_of_data f (head_for f from.0))
+                  (map (λ (v : Use). v.word) (uses from.0)) w from.2) [
+                    | inl own ↦ (let of = Contains-map_cases (word_of_place f.locations) w
+                        (data_locations f.version (head_for f from.0).payload) own in
+                        subst (Contains (words_of f.locations)) of.2
+                        (laws.sections.word f.locations of.0 (data-within renumbering f sound from.0 of.0 of.1)))
+                    | inr l ↦ (let used = Contains-map_cases (λ (v : Use). v.word) w (uses from.0) l in
+                        let place = use-place from.0 used.0 (written.lists.stand from.0 from.1) used.1 in
+                        subst (Contains (words_of f.locations)) (place.2 ∙ used.2)
+                        (laws.sections.word f.locations place.0 place.1))
+                  ])
+              | inr k ↦ elim (Contains-cases (expansion_of f).word w [] k) [
+                | inl same ↦ subst (Contains (words_of f.locations)) same
+                    (laws.sections.word f.locations f.root.location sound.root_location)
+                | inr none ↦ absurd (Contains-none w none)
+              ]
+            ]
 
         few-locations : length (locations_under f (expansion_of f)) < 10 ^ 18
         few-locations =
@@ -177,7 +205,10 @@ module _ (f : File) where
         expansion-writable fewest = record {
           origins = λ x m. inr (stands-below x m).number;
           in_order = in-order;
-          words = λ x u m k. (let place = use-place x u m k in subst (IsWordOver (length (datums_of f.locations))) place.2 (place-over places laws.sections f sound place.0 place.1));
+          words =
+              λ x u m k. (let place = use-place x u m k in
+              subst (IsWordOver (length (datums_of f.locations))) place.2
+              (place-over places laws.sections f sound place.0 place.1));
           root_word = place-over places laws.sections f sound f.root.location sound.root_location;
           few_words = few-locations;
           shallow = sound.depths f.root.number sound.root;

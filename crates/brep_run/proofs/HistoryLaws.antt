@@ -55,10 +55,12 @@ ascend-pairs [] a = tt
 ascend-pairs (p ∷ []) a = tt
 ascend-pairs (p ∷ q ∷ ps) a = (pair-below p q a.0, ascend-pairs (q ∷ ps) a.1)
 
-first-of : (ps : List (ℕ × ℕ)) (k : ℕ) → Contains (map (λ (p : ℕ × ℕ). p.0) ps) k → (p : ℕ × ℕ) × Contains ps p × (p.0 ≡ k)
+first-of : (ps : List (ℕ × ℕ)) (k : ℕ) → Contains (map (λ (p : ℕ × ℕ). p.0) ps) k
+    → (p : ℕ × ℕ) × Contains ps p × (p.0 ≡ k)
 first-of ps k m = (let found = Contains-map_cases (λ (p : ℕ × ℕ). p.0) k ps m in (found.0, found.1, found.2))
 
-module _ (f : File) (sound : IsSound f) (numbers : List ℕ) (root : Use) (text origins : List ℕ) (pairs : List (ℕ × ℕ)) (gone : List ℕ)
+module _ (f : File) (sound : IsSound f) (numbers : List ℕ) (root : Use) (text origins : List ℕ) (pairs : List (ℕ × ℕ))
+    (gone : List ℕ)
     (done : RemovalDone f numbers root text origins pairs gone) (written : IsWritten root (flat root.tree)) where
   short-number : (k : ℕ) → k ≤ length f.records → IsShort k
   short-number k l = (let all = sound.countable in omega (arith, l, all))
@@ -69,13 +71,17 @@ module _ (f : File) (sound : IsSound f) (numbers : List ℕ) (root : Use) (text 
     | inr number ↦ short-number (origin x) number.1
   ]
 
-  each-origin : (xs : List Tree) → ((x : Tree) → Contains xs x → IsShort (origin x)) → AllByRecursion IsShort (reverse (map origin xs))
+  each-origin : (xs : List Tree) → ((x : Tree) → Contains xs x → IsShort (origin x))
+      → AllByRecursion IsShort (reverse (map origin xs))
   each-origin xs h = each-of IsShort (reverse (map origin xs)) (λ k m. (
-      let found = Contains-map_cases origin k xs (subst (λ l. Contains l k) (reverse-reverse (map origin xs)) (Contains-reverse k (reverse (map origin xs)) m)) in
+      let found =
+      Contains-map_cases origin k xs (subst (λ l. Contains l k) (reverse-reverse (map origin xs))
+      (Contains-reverse k (reverse (map origin xs)) m)) in
       subst IsShort found.2 (h found.0 found.1)))
 
   written-count : length origins ≡ length (flat root.tree)
-  written-count = ap length done.origins_are ∙ length-reverse (map origin (flat root.tree)) ∙ length-map (flat root.tree) origin
+  written-count =
+      ap length done.origins_are ∙ length-reverse (map origin (flat root.tree)) ∙ length-map (flat root.tree) origin
 
   pair-of : (p : ℕ × ℕ) → Contains pairs p → IsPairOf (length origins) p
   pair-of p m =
@@ -85,7 +91,8 @@ module _ (f : File) (sound : IsSound f) (numbers : List ℕ) (root : Use) (text 
   few-pairs : length pairs ≤ length f.records
   few-pairs =
       let few-firsts = few (length f.records) (map (λ (p : ℕ × ℕ). p.0) pairs) done.pairs_ascend
-      (λ k m. (let found = first-of pairs k m in subst (IsNumberOf (length f.records)) found.2 (done.pairs_are.in_range found.0 found.1).0)) in
+      (λ k m. (let found = first-of pairs k m in
+      subst (IsNumberOf (length f.records)) found.2 (done.pairs_are.in_range found.0 found.1).0)) in
       subst (λ n. n ≤ length f.records) (length-map pairs (λ (p : ℕ × ℕ). p.0)) few-firsts
 
   few-gone : length gone ≤ length f.records
@@ -98,7 +105,13 @@ module _ (f : File) (sound : IsSound f) (numbers : List ℕ) (root : Use) (text 
   readable = record {
     origins = subst (AllByRecursion IsShort) (sym done.origins_are) (each-origin (flat root.tree) short-origin);
     written = (let count = done.writable.countable in omega (arith, written-count, count));
-    modified = record { each = each-of (IsPairOf (length origins)) pairs pair-of; ascend = ascend-pairs pairs done.pairs_ascend; short = short-number (length pairs) few-pairs };
+    modified =
+        record {
+          each = each-of (IsPairOf (length origins)) pairs pair-of;
+          ascend = ascend-pairs pairs
+              done.pairs_ascend;
+          short = short-number (length pairs) few-pairs;
+        };
     generated = record { each = tt; ascend = tt; short = omega arith };
     removed = each-of IsShort gone (λ k m. short-number k (done.gone_are.in_range k m).1);
     ascend = ascend-numbers gone done.gone_ascend;

@@ -35,7 +35,9 @@ module _ {X : Type 0} (p : X → Bool) where
 
   pub filter-all : (xs : List X) → ((x : X) → Contains xs x → p x ≡ true) → filter p xs ≡ xs
   filter-all [] h = refl
-  filter-all (x ∷ xs) h = filter-yes x xs (h x (Contains-here x xs)) ∙ ap (λ l. x ∷ l) (filter-all xs (λ y m. h y (Contains-there x y xs m)))
+  filter-all (x ∷ xs) h =
+      filter-yes x xs (h x (Contains-here x xs))
+      ∙ ap (λ l. x ∷ l) (filter-all xs (λ y m. h y (Contains-there x y xs m)))
 
   -- what is kept is a member that passes
   pub filter-member : (xs : List X) (x : X) → Contains (filter p xs) x → Contains xs x × (p x ≡ true)
@@ -45,7 +47,8 @@ module _ {X : Type 0} (p : X → Bool) where
         | inl same ↦ (subst (λ z. Contains (y ∷ ys) z) same (Contains-here y ys), subst (λ z. p z ≡ true) same t)
         | inr k ↦ let r = filter-member ys x k in (Contains-there y x ys r.0, r.1)
       ])
-      (λ f. (let r = filter-member ys x (subst (λ l. Contains l x) (filter-no y ys f) m) in (Contains-there y x ys r.0, r.1)))
+      (λ f. (let r = filter-member ys x (subst (λ l. Contains l x) (filter-no y ys f) m) in
+      (Contains-there y x ys r.0, r.1)))
 
   pub filter-keeps : (xs : List X) (x : X) → Contains xs x → p x ≡ true → Contains (filter p xs) x
   filter-keeps [] x m t = absurd (Contains-none x m)
@@ -81,7 +84,8 @@ module _ {X Y : Type 0} (a b : X → Y) where
   map-same (x ∷ xs) h = λ i. h x (Contains-here x xs) i ∷ map-same xs (λ y m. h y (Contains-there x y xs m)) i
 
   -- a list filtered and mapped as the whole list is has lost nothing
-  pub map-kept : (p : X → Bool) (xs : List X) → map a (filter p xs) ≡ map b xs → (x : X) → Contains xs x → (p x ≡ true) × (a x ≡ b x)
+  pub map-kept : (p : X → Bool) (xs : List X) → map a (filter p xs) ≡ map b xs → (x : X) → Contains xs x
+      → (p x ≡ true) × (a x ≡ b x)
   map-kept p xs e x m =
       let long = ap length e in let l = length-map (filter p xs) a in let r = length-map xs b in
       let full : length (filter p xs) ≡ length xs = omega (arith, long, l, r) in
@@ -89,7 +93,8 @@ module _ {X Y : Type 0} (a b : X → Y) where
       (filter-full p xs full x m, map-agrees xs (ap (map a) (sym whole) ∙ e) x m)
 
 -- lists with the same things at the same places
-pub by_places : {X : Type 0} (xs ys : List X) → length xs ≡ length ys → ((i : ℕ) (x : X) → slice_get xs i ≡ Some x → slice_get ys i ≡ Some x) → xs ≡ ys
+pub by_places : {X : Type 0} (xs ys : List X) → length xs ≡ length ys
+    → ((i : ℕ) (x : X) → slice_get xs i ≡ Some x → slice_get ys i ≡ Some x) → xs ≡ ys
 by_places [] [] size h = refl
 by_places [] (y ∷ ys) size h = absurd (omega (arith, size))
 by_places (x ∷ xs) [] size h = absurd (omega (arith, size))

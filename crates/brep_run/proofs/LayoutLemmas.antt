@@ -36,7 +36,8 @@ use Rattle.tshape_data.specs.Spelling.{spell_head}
 use Rattle.brep_file.specs.Spelling.{spell_use, spell_record, spell_tables, section}
 use Rattle.brep_file.specs.Sound.{AreSoundTables, IsSound, sizes_of}
 use Rattle.brep_file.specs.Reads.{Spells}
-use Rattle.brep_run.specs.Layout.{Line, heading, record_lines, section_lines, location_lines, table_lines, shape_lines, file_lines, layout}
+use Rattle.brep_run.specs.Layout.{Line, heading, record_lines, section_lines, location_lines}
+use Rattle.brep_run.specs.Layout.{table_lines, shape_lines, file_lines, layout}
 
 -- ---- the words in their order
 abbrev words_of : List Line → List (List ℕ)
@@ -45,16 +46,20 @@ words_of lines = flat_map (λ words. words) lines
 words_of-append : (a b : List Line) → words_of (a ++ b) ≡ words_of a ++ words_of b
 words_of-append a b = flat_map-append (λ words. words) a b
 
-words_of-map : {A : Type 0} (spell : A → Line) (entries : List A) → words_of (map spell entries) ≡ flat_map spell entries
+words_of-map : {A : Type 0} (spell : A → Line) (entries : List A)
+    → words_of (map spell entries) ≡ flat_map spell entries
 words_of-map spell [] = refl
 words_of-map spell (e ∷ entries) = ap (λ l. spell e ++ l) (words_of-map spell entries)
 
-section-words : {A : Type 0} (word : List ℕ) (spell : A → Line) (entries : List A) → words_of (section_lines word spell entries) ≡ section word spell entries
+section-words : {A : Type 0} (word : List ℕ) (spell : A → Line) (entries : List A)
+    → words_of (section_lines word spell entries) ≡ section word spell entries
 section-words word spell entries = ap (λ l. word ∷ decimal (length entries) ∷ l) (words_of-map spell entries)
 
-with-section : {A : Type 0} (word : List ℕ) (spell : A → Line) (entries : List A) (others : List Line) (tokens : List (List ℕ)) → words_of others ≡ tokens →
+with-section : {A : Type 0} (word : List ℕ) (spell : A → Line) (entries : List A) (others : List Line)
+    (tokens : List (List ℕ)) → words_of others ≡ tokens →
     words_of (section_lines word spell entries ++ others) ≡ section word spell entries ++ tokens
-with-section word spell entries others tokens same = words_of-append (section_lines word spell entries) others ∙ (λ i. section-words word spell entries i ++ same i)
+with-section word spell entries others tokens same =
+    words_of-append (section_lines word spell entries) others ∙ (λ i. section-words word spell entries i ++ same i)
 
 -- the tokens of the sections after the locations and before the records
 abbrev pub spell_others : File → List (List ℕ)
@@ -87,11 +92,13 @@ AreAllPlain lines = AllByRecursion ArePlain lines
 abbrev Spell : List Line → List (List ℕ) → Type 0
 Spell lines tokens = AllByRecursion (AllByRecursion IsDarkWord) lines × (flat_map (flat_map split_word) lines ≡ tokens)
 
-pub each-append : {X : Type 0} (P : X → Type 0) (a b : List X) → AllByRecursion P a → AllByRecursion P b → AllByRecursion P (a ++ b)
+pub each-append : {X : Type 0} (P : X → Type 0) (a b : List X) → AllByRecursion P a → AllByRecursion P b
+    → AllByRecursion P (a ++ b)
 each-append P [] b h k = k
 each-append P (x ∷ a) b h k = (h.0, each-append P a b h.1 k)
 
-pub each-flat_map : {X Y : Type 0} (Q : X → Type 0) (P : Y → Type 0) (f : X → List Y) → ((x : X) → Q x → AllByRecursion P (f x)) →
+pub each-flat_map : {X Y : Type 0} (Q : X → Type 0) (P : Y → Type 0) (f : X → List Y)
+    → ((x : X) → Q x → AllByRecursion P (f x)) →
     (xs : List X) → AllByRecursion Q xs → AllByRecursion P (flat_map f xs)
 each-flat_map Q P f h [] are = tt
 each-flat_map Q P f h (x ∷ xs) are = each-append P (f x) (flat_map f xs) (h x are.0) (each-flat_map Q P f h xs are.1)
@@ -114,7 +121,8 @@ sign-is External = refl
 
 -- the tokens of sound entries are plain words
 pub record EntriesArePlain : Type 0 where
-  pub locations : (before : List LocationEntry) (entry : LocationEntry) → IsSoundLocation before entry → ArePlain (spell_location entry)
+  pub locations : (before : List LocationEntry) (entry : LocationEntry) → IsSoundLocation before entry
+      → ArePlain (spell_location entry)
   pub curve2s : (c : Curve2) → IsSound2 c → ArePlain (spelling2 c)
   pub curves : (c : Curve3) → IsSound3 0 c → ArePlain (spelling3 c)
   pub polygons : (p : Polygon3) → IsSoundPolygon p → ArePlain (spell_polygon p)
@@ -122,13 +130,15 @@ pub record EntriesArePlain : Type 0 where
   pub surfaces : (s : Surface) → IsSoundSurface s → ArePlain (spell_surface s)
   pub meshes : (m : Mesh) → IsSoundMesh m → ArePlain (spell_mesh m)
 
-map-plain : {A : Type 0} (IsSoundEntry : A → Type 0) (spell : A → Line) → ((e : A) → IsSoundEntry e → ArePlain (spell e)) → (entries : List A) → AllByRecursion IsSoundEntry entries →
+map-plain : {A : Type 0} (IsSoundEntry : A → Type 0) (spell : A → Line)
+    → ((e : A) → IsSoundEntry e → ArePlain (spell e)) → (entries : List A) → AllByRecursion IsSoundEntry entries →
     AreAllPlain (map spell entries)
 map-plain IsSoundEntry spell h [] sound = tt
 map-plain IsSoundEntry spell h (e ∷ entries) sound = (h e sound.0, map-plain IsSoundEntry spell h entries sound.1)
 
 module _ (law : WrittenIsRead) (plain : EntriesArePlain) where
-  plain-spells : (lines : List Line) (tokens : List (List ℕ)) → AreAllPlain lines → words_of lines ≡ tokens → Spell lines tokens
+  plain-spells : (lines : List Line) (tokens : List (List ℕ)) → AreAllPlain lines → words_of lines ≡ tokens
+      → Spell lines tokens
   plain-spells lines tokens are same = (let law_of = law.plain_lines lines are in (law_of.0, law_of.1 ∙ same))
 
   use-plain : (u : FileUse) → ArePlain (spell_use u)
@@ -137,34 +147,50 @@ module _ (law : WrittenIsRead) (plain : EntriesArePlain) where
   uses-plain : (us : List FileUse) → ArePlain (flat_map spell_use us)
   uses-plain us = each-flat_map (λ u. Unit {0}) IsPlain spell_use (λ u any. use-plain u) us (each-any us)
 
-  locations-plain : (before entries : List LocationEntry) → AreSoundAfter before entries → AreAllPlain (map spell_location entries)
+  locations-plain : (before entries : List LocationEntry) → AreSoundAfter before entries
+      → AreAllPlain (map spell_location entries)
   locations-plain before [] sound = tt
-  locations-plain before (e ∷ entries) sound = (plain.locations before e sound.0, locations-plain (before ++ e ∷ []) entries sound.1)
+  locations-plain before (e ∷ entries) sound =
+      (plain.locations before e sound.0, locations-plain (before ++ e ∷ []) entries sound.1)
 
-  section-plain : {A : Type 0} (word : List ℕ) → IsPlain word → (IsSoundEntry : A → Type 0) (spell : A → Line) → ((e : A) → IsSoundEntry e → ArePlain (spell e)) → (entries : List A) →
+  section-plain : {A : Type 0} (word : List ℕ) → IsPlain word → (IsSoundEntry : A → Type 0) (spell : A → Line)
+      → ((e : A) → IsSoundEntry e → ArePlain (spell e)) → (entries : List A) →
       AllByRecursion IsSoundEntry entries → AreAllPlain (section_lines word spell entries)
-  section-plain word word_plain IsSoundEntry spell h entries sound = ((word_plain, (law.numbers (length entries), tt)), map-plain IsSoundEntry spell h entries sound)
+  section-plain word word_plain IsSoundEntry spell h entries sound =
+      ((word_plain, (law.numbers (length entries), tt)), map-plain IsSoundEntry spell h entries sound)
 
   tables-plain : (f : File) → AreSoundTables f → AreAllPlain (location_lines f.locations ++ table_lines f)
   tables-plain f sound =
       each-append ArePlain (location_lines f.locations) (table_lines f)
       ((refl, (law.numbers (length f.locations), tt)), locations-plain [] f.locations sound.locations)
-      (each-append ArePlain (section_lines (codes "Curve2ds") spelling2 f.curve2s) _ (section-plain (codes "Curve2ds") refl IsSound2 spelling2 plain.curve2s f.curve2s sound.curve2s.entries)
-      (each-append ArePlain (section_lines (codes "Curves") spelling3 f.curves) _ (section-plain (codes "Curves") refl (IsSound3 0) spelling3 plain.curves f.curves sound.curves.entries)
-      (each-append ArePlain (section_lines (codes "Polygon3D") spell_polygon f.polygons) _ (section-plain (codes "Polygon3D") refl IsSoundPolygon spell_polygon plain.polygons f.polygons sound.polygons.entries)
+      (each-append ArePlain (section_lines (codes "Curve2ds") spelling2 f.curve2s) _
+      (section-plain (codes "Curve2ds") refl IsSound2 spelling2 plain.curve2s f.curve2s sound.curve2s.entries)
+      (each-append ArePlain (section_lines (codes "Curves") spelling3 f.curves) _
+      (section-plain (codes "Curves") refl (IsSound3 0) spelling3 plain.curves f.curves sound.curves.entries)
+      (each-append ArePlain (section_lines (codes "Polygon3D") spell_polygon f.polygons) _
+      (section-plain (codes "Polygon3D") refl IsSoundPolygon spell_polygon plain.polygons f.polygons
+      sound.polygons.entries)
       (each-append ArePlain (section_lines (codes "PolygonOnTriangulations") spell_polygon_on f.polygons_on) _
-      (section-plain (codes "PolygonOnTriangulations") refl IsSoundPolygonOn spell_polygon_on plain.polygons_on f.polygons_on sound.polygons_on.entries)
-      (each-append ArePlain (section_lines (codes "Surfaces") spell_surface f.surfaces) _ (section-plain (codes "Surfaces") refl IsSoundSurface spell_surface plain.surfaces f.surfaces sound.surfaces.entries)
-      (section-plain (codes "Triangulations") refl IsSoundMesh spell_mesh plain.meshes f.meshes sound.meshes.entries))))))
+      (section-plain (codes "PolygonOnTriangulations") refl IsSoundPolygonOn spell_polygon_on plain.polygons_on
+      f.polygons_on sound.polygons_on.entries)
+      (each-append ArePlain (section_lines (codes "Surfaces") spell_surface f.surfaces) _
+      (section-plain (codes "Surfaces") refl IsSoundSurface spell_surface plain.surfaces f.surfaces
+      sound.surfaces.entries)
+      (section-plain (codes "Triangulations") refl IsSoundMesh spell_mesh plain.meshes f.meshes
+      sound.meshes.entries))))))
 
   -- ---- lines with the tokens that they have
   tables-are : (f : File) → AreSoundTables f → Spell (location_lines f.locations ++ table_lines f) (spell_tables f)
-  tables-are f sound = plain-spells (location_lines f.locations ++ table_lines f) (spell_tables f) (tables-plain f sound) (tables-words f)
+  tables-are f sound =
+      plain-spells (location_lines f.locations ++ table_lines f) (spell_tables f) (tables-plain f sound)
+      (tables-words f)
 
-  uses-line : (us : List FileUse) → Spell ((flat_map spell_use us ++ codes "*" ∷ []) ∷ []) (flat_map spell_use us ++ codes "*" ∷ [])
+  uses-line : (us : List FileUse)
+      → Spell ((flat_map spell_use us ++ codes "*" ∷ []) ∷ []) (flat_map spell_use us ++ codes "*" ∷ [])
   uses-line us =
       plain-spells ((flat_map spell_use us ++ codes "*" ∷ []) ∷ []) (flat_map spell_use us ++ codes "*" ∷ [])
-      (each-append IsPlain (flat_map spell_use us) (codes "*" ∷ []) (uses-plain us) (refl, tt), tt) (append-nil (flat_map spell_use us ++ codes "*" ∷ []))
+      (each-append IsPlain (flat_map spell_use us) (codes "*" ∷ []) (uses-plain us) (refl, tt), tt)
+      (append-nil (flat_map spell_use us ++ codes "*" ∷ []))
 
   module _ (heads : LinesAreExact) (f : File) where
     abbrev HasHead : Record → Type 0
@@ -173,22 +199,30 @@ module _ (law : WrittenIsRead) (plain : EntriesArePlain) where
     record-lines : (r : Record) → HasHead r → Spell (record_lines f.version r) (spell_record f.version r)
     record-lines r sound =
         let head = heads (sizes_of f) f.version r.head sound in
-        spells-append (head_lines f.version r.head) ((flat_map spell_use r.uses ++ codes "*" ∷ []) ∷ []) (spell_head f.version r.head) (flat_map spell_use r.uses ++ codes "*" ∷ [])
+        spells-append (head_lines f.version r.head) ((flat_map spell_use r.uses ++ codes "*" ∷ []) ∷ [])
+        (spell_head f.version r.head) (flat_map spell_use r.uses ++ codes "*" ∷ [])
         (head.dark, head.tokens) (uses-line r.uses)
 
-    records-lines : (rs : List Record) → AllByRecursion HasHead rs → Spell (flat_map (record_lines f.version) rs) (flat_map (spell_record f.version) rs)
+    records-lines : (rs : List Record) → AllByRecursion HasHead rs
+        → Spell (flat_map (record_lines f.version) rs) (flat_map (spell_record f.version) rs)
     records-lines [] sound = (tt, refl)
     records-lines (r ∷ rs) sound =
-        spells-append (record_lines f.version r) (flat_map (record_lines f.version) rs) (spell_record f.version r) (flat_map (spell_record f.version) rs)
+        spells-append (record_lines f.version r) (flat_map (record_lines f.version) rs) (spell_record f.version r)
+        (flat_map (spell_record f.version) rs)
         (record-lines r sound.0) (records-lines rs sound.1)
 
-    shapes-lines : AllByRecursion HasHead f.records → Spell (shape_lines f) (section (codes "TShapes") (spell_record f.version) f.records ++ spell_use f.root)
+    shapes-lines : AllByRecursion HasHead f.records
+        → Spell (shape_lines f) (section (codes "TShapes") (spell_record f.version) f.records ++ spell_use f.root)
     shapes-lines sound =
-        spells-append (heading (codes "TShapes") (length f.records) ∷ []) (flat_map (record_lines f.version) f.records ++ spell_use f.root ∷ [])
+        spells-append (heading (codes "TShapes") (length f.records) ∷ [])
+        (flat_map (record_lines f.version) f.records ++ spell_use f.root ∷ [])
         (heading (codes "TShapes") (length f.records)) (flat_map (spell_record f.version) f.records ++ spell_use f.root)
-        (plain-spells (heading (codes "TShapes") (length f.records) ∷ []) (heading (codes "TShapes") (length f.records)) ((refl, (law.numbers (length f.records), tt)), tt) refl)
-        (spells-append (flat_map (record_lines f.version) f.records) (spell_use f.root ∷ []) (flat_map (spell_record f.version) f.records) (spell_use f.root)
-        (records-lines f.records sound) (plain-spells (spell_use f.root ∷ []) (spell_use f.root) (use-plain f.root, tt) (append-nil (spell_use f.root))))
+        (plain-spells (heading (codes "TShapes") (length f.records) ∷ []) (heading (codes "TShapes") (length f.records))
+        ((refl, (law.numbers (length f.records), tt)), tt) refl)
+        (spells-append (flat_map (record_lines f.version) f.records) (spell_use f.root ∷ [])
+        (flat_map (spell_record f.version) f.records) (spell_use f.root)
+        (records-lines f.records sound) (plain-spells (spell_use f.root ∷ []) (spell_use f.root) (use-plain f.root, tt)
+        (append-nil (spell_use f.root))))
 
     sound-heads : IsSound f → AllByRecursion HasHead f.records
     sound-heads sound = recursion_from_All HasHead f.records (λ k d lt.
@@ -200,6 +234,7 @@ module _ (law : WrittenIsRead) (plain : EntriesArePlain) where
     pub layout-spells : IsSound f → Spells (layout f) f
     layout-spells sound =
         let lines = spells-append (location_lines f.locations ++ table_lines f) (shape_lines f) (spell_tables f)
-        (section (codes "TShapes") (spell_record f.version) f.records ++ spell_use f.root) (tables-are f sound.tables) (shapes-lines (sound-heads sound)) in
+        (section (codes "TShapes") (spell_record f.version) f.records ++ spell_use f.root) (tables-are f sound.tables)
+        (shapes-lines (sound-heads sound)) in
         let read = law.read f.version (file_lines f) sound.version lines.0 in
         record { tokens = (read.0, read.1, inl (read.2 ∙ lines.1)); sound = sound }

@@ -20,22 +20,31 @@ use Rattle.brep_file.specs.Sound.{IsSound}
 use Rattle.brep_run.specs.Dress.{head_for, made_head, rebuilt}
 use Rattle.brep_run.specs.Copies.{CanBeWritten}
 use Rattle.brep_run.specs.Layout.{shape_lines}
-use Rattle.brep_run.specs.WrittenFile.{words_of_data, words_under, location_under, locations_under, written_file, written_head}
+use Rattle.brep_run.specs.WrittenFile.{words_of_data, words_under, location_under}
+use Rattle.brep_run.specs.WrittenFile.{locations_under, written_file, written_head}
 use Rattle.brep_run.specs.Remaining.{made_root}
 
 no_record : (f : File) → record_of f 0 ≡ None
 no_record f = slice_get_past f.records (length f.records - 0) (omega arith)
 
 made_head_is : (f : File) → head_for f (tree_of 0 []) ≡ made_head
-made_head_is f = ap (λ o. option_map_or (λ (r : Record). if tree_eq (tree_of 0 []) (tree_of_record f 0) then r.head else rebuilt r.head) o made_head) (no_record f)
+made_head_is f =
+    ap (λ o. option_map_or (λ (r : Record). if tree_eq (tree_of 0 []) (tree_of_record f 0) then r.head else rebuilt
+    r.head) o made_head) (no_record f)
 
-made_lines : (f : File) → lines_text (shape_lines (record f { records = record { head = made_head; uses = [] } ∷ []; root = record { turn = Forward; number = 1; location = 0 } }))
+made_lines : (f : File) → lines_text (shape_lines
+    (record f {
+      records = record { head = made_head; uses = [] }
+          ∷ [];
+      root = record { turn = Forward; number = 1; location = 0 };
+    }))
     ≡ codes "TShapes 1\nCo\n\n1101000\n*\n+1 0\n"
 unfolding digits
 made_lines f = refl
 
 -- the lines of its record and of its use
-pub made_shapes : (f : File) → lines_text (shape_lines (written_file f made_root)) ≡ codes "TShapes 1\nCo\n\n1101000\n*\n+1 0\n"
+pub made_shapes : (f : File)
+    → lines_text (shape_lines (written_file f made_root)) ≡ codes "TShapes 1\nCo\n\n1101000\n*\n+1 0\n"
 made_shapes f =
     let head = made_head_is f in
     (λ i. lines_text (shape_lines (record f {
@@ -57,11 +66,17 @@ made-writable sections numbers f sound = record {
   origins = λ x m. inl (ap origin (made-only x m));
   in_order = λ x u m o. absurd (Contains-none u (subst (λ z. Contains (uses z) u) (made-only x m) o));
   words = λ x u m o. absurd (Contains-none u (subst (λ z. Contains (uses z) u) (made-only x m) o));
-  root_word = record { held = record { is_word = refl; few = omega arith; small = λ i d lt. absurd (omega (arith, lt)) }; over = tt };
+  root_word =
+      record {
+        held = record { is_word = refl; few = omega arith; small = λ i d lt. absurd (omega (arith, lt)) };
+        over =
+            tt;
+      };
   shallow = omega arith;
   countable = omega arith;
   few_words =
       (let long = numbers.size (datums_of f.locations) (further_words (words_under f made_root)) in
-      let none = ap length (made-words f) in let less = sections.few_datums f.locations in let few = sound.tables.countable in
+      let none = ap length (made-words f) in let less = sections.few_datums f.locations in
+      let few = sound.tables.countable in
       omega (arith, long, none, less, few));
 }

@@ -1,4 +1,5 @@
--- A file is given for bytes exactly where they spell it and it is small; where reading stops at a fault, they spell none.
+-- A file is given for bytes exactly where they spell it and it is small; where reading stops at a fault, they spell
+-- none.
 use Rattle.std.proofs.Common.{◌≡◌, ℕ, List, sym, ◌∙◌}
 use Rattle.std.specs.Prelude.{Ok, Err}
 use Rattle.brep_tokens.specs.declared.fault.ReadFault.{ReadFault}
@@ -19,11 +20,15 @@ module _ (exact : ReadingIsExact) where
 
   -- no file is read where reading stops at a fault
   pub none-at : (bytes : List ℕ) (x : ReadFault) → read_text file_limits bytes ≡ Err x → (f : File) → Reads bytes f → ⊥
-  none-at bytes x is f reads = (let read = exact.again file_limits bytes f reads.spells reads.small in let both = sym read ∙ is in cc)
+  none-at bytes x is f reads =
+      (let read = exact.again file_limits bytes f reads.spells reads.small in let both = sym read ∙ is in cc)
 
-  pub fault-held : (old : Shown) (source bytes : List ℕ) (x : ReadFault) → Holds old source bytes → read_text file_limits bytes ≡ Err x → HoldsFault old source x
-  fault-held old source bytes x holds is = record { bytes = bytes; holds = holds; first = is; none = none-at bytes x is }
+  pub fault-held : (old : Shown) (source bytes : List ℕ) (x : ReadFault) → Holds old source bytes
+      → read_text file_limits bytes ≡ Err x → HoldsFault old source x
+  fault-held old source bytes x holds is =
+      record { bytes = bytes; holds = holds; first = is; none = none-at bytes x is }
 
-pub first-of : (bytes : List ℕ) (e : ReadStop) → FileGiven (Err e) (read_text file_limits bytes) → (x : ReadFault) → e ≡ Fault x → read_text file_limits bytes ≡ Err x
+pub first-of : (bytes : List ℕ) (e : ReadStop) → FileGiven (Err e) (read_text file_limits bytes) → (x : ReadFault)
+    → e ≡ Fault x → read_text file_limits bytes ≡ Err x
 first-of bytes (Fault y) given x is = cc
 first-of bytes NoMemory given x is = cc

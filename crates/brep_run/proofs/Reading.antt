@@ -5,7 +5,8 @@ use Rattle.std.specs.Prelude.{Option, is_some}
 use Rattle.brep_desk.specs.Strays.{IsHeldIfTold, KeepsStrays}
 use Rattle.brep_desk.specs.Transfers.{NothingWritten, NoMoreOpen}
 use Rattle.brep_run.specs.declared.outcome.Outcome.{Outcome}
-use Rattle.brep_run.specs.declared.outcome.Outcome.TheVariants.{Done, Usage, NotBuilt, Script, Limit, ReadDesk, WriteDesk, NoMemory}
+use Rattle.brep_run.specs.declared.outcome.Outcome.TheVariants.{Done, Usage, NotBuilt, Script, Limit}
+use Rattle.brep_run.specs.declared.outcome.Outcome.TheVariants.{ReadDesk, WriteDesk, NoMemory}
 use Rattle.brep_run.specs.declared.outcome.Outcome.TheVariants as outcomes
 use Rattle.expansion_laws.specs.Trees.{Use}
 use Rattle.brep_file.specs.declared.file.File.{File}
@@ -16,23 +17,34 @@ use Rattle.brep_run.specs.Copy.{IsDue, OutWritten}
 use Rattle.brep_file.specs.PlainRecords.{expansion_of}
 use Rattle.brep_run.specs.WrittenFile.{text_of}
 use Rattle.brep_run.specs.Inputs.{IsLinesStop, IsScriptLimit, IsScriptStop}
-use Rattle.brep_run.specs.Rewrite.{AreDue, AreTextsOf, BothWritten, HoldsFile, HoldsScript, InputsAreHeld, IsRefusedLine, IsRewriteLimit, IsRewriteUnbuilt, IsRewritten, IsOneStopped, IsRewriteStopped, given_for}
+use Rattle.brep_run.specs.Rewrite.{AreDue, AreTextsOf, BothWritten, HoldsFile, HoldsScript}
+use Rattle.brep_run.specs.Rewrite.{InputsAreHeld, IsRefusedLine, IsRewriteLimit, IsRewriteUnbuilt}
+use Rattle.brep_run.specs.Rewrite.{IsRewritten, IsOneStopped, IsRewriteStopped, given_for}
 use Rattle.brep_run.specs.Script.{removals}
 use Rattle.brep_run.proofs.Stopping.{prefix_after}
 
-pub held-before : (t : Tells) (old new : Shown) (name bytes : List ℕ) → NothingWritten t old new → new.held name ≡ Some bytes → old.held name ≡ Some bytes
+pub held-before : (t : Tells) (old new : Shown) (name bytes : List ℕ) → NothingWritten t old new
+    → new.held name ≡ Some bytes → old.held name ≡ Some bytes
 held-before t old new name bytes quiet is = sym (ap (λ f. f name) quiet.held) ∙ is
 
 pub quiet-both : (t : Tells) (a b d : Shown) → NothingWritten t a b → NothingWritten t b d → NothingWritten t a d
-quiet-both t a b d one two = record { held = two.held ∙ one.held; written = λ w. two.written w ∙ one.written w; ended = λ w. two.ended w ∙ one.ended w }
+quiet-both t a b d one two =
+    record {
+      held = two.held ∙ one.held;
+      written = λ w. two.written w ∙ one.written w;
+      ended = λ w. two.ended w
+          ∙ one.ended w;
+    }
 
 pub strays-both : (t : Tells) (a b d : Shown) → KeepsStrays t a b → KeepsStrays t b d → KeepsStrays t a d
 strays-both t a b d one two = λ told. two told ∙ one told
 
 -- after the file was read, the script is still held
-pub script-held : (t : Tells) (a b : Shown) (source script : List ℕ) (f : File) → NothingWritten t a b → (IsTrue t.held → HoldsFile a source f) → InputsAreHeld t a source script → IsHeldIfTold t b script
+pub script-held : (t : Tells) (a b : Shown) (source script : List ℕ) (f : File) → NothingWritten t a b
+    → (IsTrue t.held → HoldsFile a source f) → InputsAreHeld t a source script → IsHeldIfTold t b script
 script-held t a b source script f quiet file inputs = λ told.
-    subst (λ (h : List ℕ → Option (List ℕ)). IsTrue (is_some (h script))) (sym quiet.held) (inputs.script_held f (file told) told)
+    subst (λ (h : List ℕ → Option (List ℕ)). IsTrue (is_some (h script))) (sym quiet.held)
+    (inputs.script_held f (file told) told)
 
 pub closed-both : (a b d : Shown) → NoMoreOpen a b → NoMoreOpen b d → NoMoreOpen a d
 closed-both a b d one two = λ k. elim (two k) [
@@ -57,18 +69,23 @@ module _ (t : Tells) (a b new : Shown) (quiet : NothingWritten t a b) (closed : 
   both-after : BothWritten t b new target text history told → IsRewritten t a new source script target history
   both-after both = (text, told, due, (both.0, out-after t a b both.0 quiet closed target text both.1, both.2))
 
-  one-after : (file taken : ℕ) → IsOneStopped t b new target text history told file taken → IsRewriteStopped t a new source script target history file taken
+  one-after : (file taken : ℕ) → IsOneStopped t b new target text history told file taken
+      → IsRewriteStopped t a new source script target history file taken
   one-after file taken one = (
     text,
     told,
     due,
     elim one [
       | inl first ↦ inl (first.0, prefix_after t a b new source target text quiet taken first.1)
-      | inr second ↦ inr (second.0, (second.1.0, out-after t a b second.1.0 quiet closed target text second.1.1, second.1.2))
+      | inr second ↦ inr (
+        second.0,
+        (second.1.0, out-after t a b second.1.0 quiet closed target text second.1.1, second.1.2),
+      )
     ],
   )
 
-  pub done-after : (o : Outcome) → OnDone o (BothWritten t b new target text history told) → OnDone o (IsRewritten t a new source script target history)
+  pub done-after : (o : Outcome) → OnDone o (BothWritten t b new target text history told)
+      → OnDone o (IsRewritten t a new source script target history)
   done-after Done h = both-after h
   done-after Usage h = tt
   done-after NotBuilt h = tt
@@ -79,7 +96,8 @@ module _ (t : Tells) (a b new : Shown) (quiet : NothingWritten t a b) (closed : 
   done-after (WriteDesk before after file taken) h = tt
   done-after NoMemory h = tt
 
-  pub stopped-after : (o : Outcome) → IfStopped o (λ file taken. IsOneStopped t b new target text history told file taken) →
+  pub stopped-after : (o : Outcome)
+      → IfStopped o (λ file taken. IsOneStopped t b new target text history told file taken) →
       IfStopped o (λ file taken. IsRewriteStopped t a new source script target history file taken)
   stopped-after Done h = tt
   stopped-after Usage h = tt
@@ -92,17 +110,33 @@ module _ (t : Tells) (a b new : Shown) (quiet : NothingWritten t a b) (closed : 
   stopped-after NoMemory h = tt
 
 -- a file that was read, and what the script says that is read after it
-module _ (t : Tells) (a b : Shown) (quiet : NothingWritten t a b) (source script : List ℕ) (f : File) (file : IsTrue t.held → HoldsFile a source f) where
-  limit-before : (which : LimitKind) (count : ℕ) → IsScriptLimit t b script which count → IsRewriteLimit t a source script which count
+module _ (t : Tells) (a b : Shown) (quiet : NothingWritten t a b) (source script : List ℕ) (f : File)
+    (file : IsTrue t.held → HoldsFile a source f) where
+  limit-before : (which : LimitKind) (count : ℕ) → IsScriptLimit t b script which count
+      → IsRewriteLimit t a source script which count
   limit-before FileBytes count h = absurd h
-  limit-before ScriptBytes count h = (h.0, (λ told. (let long = h.1 told in (long.0, held-before t a b script long.0 quiet long.1, long.2))), (λ told. (f, file told)))
+  limit-before ScriptBytes count h = (
+    h.0,
+    (λ told. (let long = h.1 told in
+        (long.0, held-before t a b script long.0 quiet long.1, long.2))),
+    (λ told. (f, file told)),
+  )
   limit-before ScriptLines count h = (
     h.0,
-    λ told. (let more = h.1 told in
-        (f, file told, record { lines = more.lines; held = held-before t a b script more.lines quiet more.held; few_bytes = more.few_bytes; more = more.more })),
+    λ told. (let more = h.1 told in (
+      f,
+      file told,
+      record {
+        lines = more.lines;
+        held = held-before t a b script more.lines quiet more.held;
+        few_bytes = more.few_bytes;
+        more = more.more;
+      },
+    )),
   )
 
-  pub limited-before : (entry exit : ℕ) (o : Outcome) → IsScriptStop t b script entry exit o → IfLimit o (λ which count. IsRewriteLimit t a source script which count)
+  pub limited-before : (entry exit : ℕ) (o : Outcome) → IsScriptStop t b script entry exit o
+      → IfLimit o (λ which count. IsRewriteLimit t a source script which count)
   limited-before entry exit Done h = tt
   limited-before entry exit Usage h = tt
   limited-before entry exit NotBuilt h = tt
@@ -115,17 +149,34 @@ module _ (t : Tells) (a b : Shown) (quiet : NothingWritten t a b) (source script
 
   module _ (lines : List ℕ) (held : IsTrue t.held → HoldsScript b script lines) where
     script-before : IsTrue t.held → HoldsScript a script lines
-    script-before told = (let is = held told in record { held = held-before t a b script lines quiet is.held; few_bytes = is.few_bytes; few_lines = is.few_lines })
+    script-before told =
+        (let is = held told in
+        record {
+          held = held-before t a b script lines quiet is.held;
+          few_bytes = is.few_bytes;
+          few_lines =
+              is.few_lines;
+        })
 
-    pub due-before : (numbers : List ℕ) (root : Use) (text told : List ℕ) → given_for f lines ≡ removals numbers → AreTextsOf f numbers root text told → AreDue t a source script text told
-    due-before numbers root text told given texts = λ is. (f, numbers, root, record { file = file is; lines = lines; held = script-before is; given = given }, texts)
+    pub due-before : (numbers : List ℕ) (root : Use) (text told : List ℕ) → given_for f lines ≡ removals numbers
+        → AreTextsOf f numbers root text told → AreDue t a source script text told
+    due-before numbers root text told given texts =
+        λ is. (
+          f,
+          numbers,
+          root,
+          record { file = file is; lines = lines; held = script-before is; given = given },
+          texts,
+        )
 
     -- the same of the slices that the calls were given
-    pub due-made : (slice numbers picked text made told : List ℕ) (root : Use) → slice ≡ lines → picked ≡ numbers → text ≡ made → given_for f slice ≡ removals numbers →
+    pub due-made : (slice numbers picked text made told : List ℕ) (root : Use) → slice ≡ lines → picked ≡ numbers
+        → text ≡ made → given_for f slice ≡ removals numbers →
         AreTextsOf f picked root made told → AreDue t a source script text told
     due-made slice numbers picked text made told root same_lines same_numbers same_text given texts =
         due-before numbers root text told (subst (λ ls. given_for f ls ≡ removals numbers) same_lines given)
-        (subst (λ x. AreTextsOf f numbers root x told) (sym same_text) (subst (λ ns. AreTextsOf f ns root made told) same_numbers texts))
+        (subst (λ x. AreTextsOf f numbers root x told) (sym same_text)
+        (subst (λ ns. AreTextsOf f ns root made told) same_numbers texts))
 
     pub unbuilt-before : (o : Outcome) → IsLinesStop f lines o → OnNotBuilt o (IsRewriteUnbuilt t a source script)
     unbuilt-before Done h = tt
@@ -138,7 +189,8 @@ module _ (t : Tells) (a b : Shown) (quiet : NothingWritten t a b) (source script
     unbuilt-before (WriteDesk before after file taken) h = tt
     unbuilt-before NoMemory h = tt
 
-    pub refused-before : (o : Outcome) → IsLinesStop f lines o → IfScript o (λ fault. IsRefusedLine t a source script fault)
+    pub refused-before : (o : Outcome) → IsLinesStop f lines o
+        → IfScript o (λ fault. IsRefusedLine t a source script fault)
     refused-before Done h = tt
     refused-before Usage h = tt
     refused-before NotBuilt h = tt
@@ -150,11 +202,15 @@ module _ (t : Tells) (a b : Shown) (quiet : NothingWritten t a b) (source script
     refused-before NoMemory h = tt
 
 -- a file that was read, and the text of its copy
-pub due-copy : (t : Tells) (old : Shown) (source text : List ℕ) (f : File) → (IsTrue t.held → HoldsFile old source f) → text ≡ text_of f (expansion_of f) → IsDue t old source text
-due-copy t old source text f file written = λ told. (let is = file told in (is.bytes, f, is.holds, record { reads = is.reads; written = written }))
+pub due-copy : (t : Tells) (old : Shown) (source text : List ℕ) (f : File) → (IsTrue t.held → HoldsFile old source f)
+    → text ≡ text_of f (expansion_of f) → IsDue t old source text
+due-copy t old source text f file written =
+    λ told. (let is = file told in (is.bytes, f, is.holds, record { reads = is.reads; written = written }))
 
-module _ (t : Tells) (a b d : Shown) (quiet : NothingWritten t a b) (closed : IsTrue t.opened → NoMoreOpen a b) (source name text : List ℕ) (due : IsDue t a source text) where
-  pub copied-after : (o : Outcome) → OnDone o (OutWritten t b d name text) → OnDone o ((text : List ℕ) × IsDue t a source text × OutWritten t a d name text)
+module _ (t : Tells) (a b d : Shown) (quiet : NothingWritten t a b) (closed : IsTrue t.opened → NoMoreOpen a b)
+    (source name text : List ℕ) (due : IsDue t a source text) where
+  pub copied-after : (o : Outcome) → OnDone o (OutWritten t b d name text)
+      → OnDone o ((text : List ℕ) × IsDue t a source text × OutWritten t a d name text)
   copied-after Done h = (text, due, out-after t a b d quiet closed name text h)
   copied-after Usage h = tt
   copied-after NotBuilt h = tt

@@ -1,6 +1,7 @@
 -- What a use of a record becomes, where records are removed by their numbers.
 use Rattle.std.proofs.Common.{◌≡◌, ◌<◌, ◌+◌, refl, sym, ◌∙◌, ap, arith}
-use Rattle.std.specs.Prelude.{ℕ, zero, suc, Bool, true, false, not, if◌then◌else◌, Option, None, Some, List, [], ◌∷◌, ◌++◌, All, map, length, Contains}
+use Rattle.std.specs.Prelude.{ℕ, zero, suc, Bool, true, false, not, if◌then◌else◌, Option}
+use Rattle.std.specs.Prelude.{None, Some, List, [], ◌∷◌, ◌++◌, All, map, length, Contains}
 use Rattle.std.specs.Option.{option_map}
 use Rattle.lists.proofs.Members.{Contains-here, Contains-there}
 use Rattle.lists.proofs.Cases.{by_test}
@@ -27,7 +28,8 @@ use Rattle.brep_run.proofs.RemovalKinds.{entered-uses, remains-rebuilt}
 
 -- one level of the bounded function
 results-level : (s : Step) (m : ℕ) (c : Context) (u : Use) →
-    results_within s (suc m) c u ≡ by_match s (λ d v. results_within s m d v) c u (match_of s.requests u.tree (inside c u))
+    results_within s (suc m) c u
+    ≡ by_match s (λ d v. results_within s m d v) c u (match_of s.requests u.tree (inside c u))
 unfolding results_within
 results-level s m c u = refl
 
@@ -40,7 +42,8 @@ pub record AreRemoved (f : File) (numbers : List ℕ) (removed : ℕ → Bool) :
   pub named : All (IsNumberOf (length f.records)) numbers
   pub each : (k : ℕ) → IsNumberOf (length f.records) k → removed k ≡ is_among numbers k
 
-module _ (f : File) (numbers : List ℕ) (removed : ℕ → Bool) (tell : NumbersTell f) (are : AreRemoved f numbers removed) (walk : RecordsAreTrees (kept_records f removed)) where
+module _ (f : File) (numbers : List ℕ) (removed : ℕ → Bool) (tell : NumbersTell f) (are : AreRemoved f numbers removed)
+    (walk : RecordsAreTrees (kept_records f removed)) where
   -- the results of a use of a record: none where it is removed, else the use with the record's new tree
   abbrev pub result_of : Use → ℕ → List Use
   result_of u k = if removed k then [] else a_single u.turn u.word (tree_after f removed k) ∷ []
@@ -48,33 +51,43 @@ module _ (f : File) (numbers : List ℕ) (removed : ℕ → Bool) (tell : Number
   pub result-gone : (u : Use) (k : ℕ) → removed k ≡ true → result_of u k ≡ []
   result-gone u k e = rw e refl
 
-  pub result-stays : (u : Use) (k : ℕ) → removed k ≡ false → result_of u k ≡ a_single u.turn u.word (tree_after f removed k) ∷ []
+  pub result-stays : (u : Use) (k : ℕ) → removed k ≡ false
+      → result_of u k ≡ a_single u.turn u.word (tree_after f removed k) ∷ []
   result-stays u k e = rw e refl
 
-  pub match-none : (k : ℕ) (c : Context) → IsNumberOf (length f.records) k → removed k ≡ false → match_of (removals f numbers) (tree_of_record f k) c ≡ None
+  pub match-none : (k : ℕ) (c : Context) → IsNumberOf (length f.records) k → removed k ≡ false
+      → match_of (removals f numbers) (tree_of_record f k) c ≡ None
   match-none k c n e = no-match f tell k n c numbers are.named (sym (are.each k n) ∙ e)
 
-  pub match-some : (k : ℕ) (c : Context) → IsNumberOf (length f.records) k → removed k ≡ true → (r : Request) × (match_of (removals f numbers) (tree_of_record f k) c ≡ Some r)
+  pub match-some : (k : ℕ) (c : Context) → IsNumberOf (length f.records) k → removed k ≡ true
+      → (r : Request) × (match_of (removals f numbers) (tree_of_record f k) c ≡ Some r)
   match-some k c n e = has-match f tell k n c numbers are.named (sym (are.each k n) ∙ e)
 
   -- the results of uses, where those of each are known
-  all-are : (results : Use → Option (List Use)) (us : List FileUse) → ((u : FileUse) → Contains us u → results (use_of_tree f u) ≡ Some (result_of (use_of_tree f u) u.number)) →
+  all-are : (results : Use → Option (List Use)) (us : List FileUse)
+      → ((u : FileUse) → Contains us u → results (use_of_tree f u) ≡ Some (result_of (use_of_tree f u) u.number)) →
       all_results results (map (use_of_tree f) us) ≡ Some (map (use_after f removed) (kept_uses removed us))
   all-are results [] h = refl
   all-are results (u ∷ us) h =
       let first = h u (Contains-here u us) in
       let rest = all-are results us (λ v m. h v (Contains-there u v us m)) in
-      let both : joined (results (use_of_tree f u)) (all_results results (map (use_of_tree f) us)) ≡ Some (result_of (use_of_tree f u) u.number ++ map (use_after f removed) (kept_uses removed us)) =
+      let both : joined (results (use_of_tree f u)) (all_results results (map (use_of_tree f) us))
+      ≡ Some (result_of (use_of_tree f u) u.number ++ map (use_after f removed) (kept_uses removed us)) =
       (λ i. joined (first i) (rest i)) in
       both ∙ by_test (removed u.number)
       (λ e.
-      ap (λ (l : List Use). Some (l ++ map (use_after f removed) (kept_uses removed us))) (result-gone (use_of_tree f u) u.number e)
-      ∙ ap (λ (l : List FileUse). Some (map (use_after f removed) l)) (sym (filter-no (λ (v : FileUse). not (removed v.number)) u us (ap not e))))
+      ap (λ (l : List Use). Some (l ++ map (use_after f removed) (kept_uses removed us)))
+      (result-gone (use_of_tree f u) u.number e)
+      ∙ ap (λ (l : List FileUse). Some (map (use_after f removed) l))
+      (sym (filter-no (λ (v : FileUse). not (removed v.number)) u us (ap not e))))
       (λ e.
-      ap (λ (l : List Use). Some (l ++ map (use_after f removed) (kept_uses removed us))) (result-stays (use_of_tree f u) u.number e)
-      ∙ ap (λ (l : List FileUse). Some (map (use_after f removed) l)) (sym (filter-yes (λ (v : FileUse). not (removed v.number)) u us (ap not e))))
+      ap (λ (l : List Use). Some (l ++ map (use_after f removed) (kept_uses removed us)))
+      (result-stays (use_of_tree f u) u.number e)
+      ∙ ap (λ (l : List FileUse). Some (map (use_after f removed) l))
+      (sym (filter-yes (λ (v : FileUse). not (removed v.number)) u us (ap not e))))
 
-  results-gone : (m : ℕ) (c : Context) (u : Use) (k : ℕ) → IsNumberOf (length f.records) k → u.tree ≡ tree_of_record f k → removed k ≡ true →
+  results-gone : (m : ℕ) (c : Context) (u : Use) (k : ℕ) → IsNumberOf (length f.records) k → u.tree ≡ tree_of_record f k
+      → removed k ≡ true →
       results_within (removal_step f numbers) (suc m) c u ≡ Some (result_of u k)
   results-gone m c u k n is e =
       let s : Step = removal_step f numbers in
@@ -87,7 +100,8 @@ module _ (f : File) (numbers : List ℕ) (removed : ℕ → Bool) (tell : Number
       ∙ ap (by_act s again c u r.0.place) act
       ∙ ap Some (sym (result-gone u k e))
 
-  pub results-are : (m : ℕ) (c : Context) (u : Use) (k : ℕ) → IsNumberOf (length f.records) k → u.tree ≡ tree_of_record f k → length f.records < k + m →
+  pub results-are : (m : ℕ) (c : Context) (u : Use) (k : ℕ) → IsNumberOf (length f.records) k
+      → u.tree ≡ tree_of_record f k → length f.records < k + m →
       results_within (removal_step f numbers) m c u ≡ Some (result_of u k)
   results-are zero c u k n is deep = (let high = n.1 in absurd (omega (arith, high, deep)))
   results-are (suc m) c u k n is deep = by_test (removed k) (results-gone m c u k n is) (λ e.
@@ -102,7 +116,8 @@ module _ (f : File) (numbers : List ℕ) (removed : ℕ → Bool) (tell : Number
       let names = names-above f removed tell walk k at.0 v n at.1 o in let above = names.0 in
       results-are m (inside c u) (use_of_tree f v) v.number names.1 refl (omega (arith, deep, above))) in
       let bare : uses (tree_of_record f k) ≡ [] → after_uses ≡ [] =
-      λ none. ap (λ us. map (use_after f removed) (kept_uses removed us)) (map-none (use_of_tree f) at.0.uses (sym listed ∙ none)) in
+      λ none. ap (λ us. map (use_after f removed) (kept_uses removed us))
+      (map-none (use_of_tree f) at.0.uses (sym listed ∙ none)) in
       let named : origin u.tree ≡ k = ap origin is ∙ tell.trees.origins k (plain_number f k n) in
       let after = after-is f removed tell walk k at.0 n at.1 in
       results-level s m c u
@@ -110,10 +125,13 @@ module _ (f : File) (numbers : List ℕ) (removed : ℕ → Bool) (tell : Number
       ∙ ap (by_match s again c u) (match-none k (inside c u) n e)
       ∙ ap (option_map (remains s u)) below
       ∙ ap Some (remains-rebuilt f numbers tell u k after_uses n is bare)
-      ∙ ap (λ j. Some (a_single u.turn u.word (tree_of j (map (use_after f removed) (kept_uses removed at.0.uses))) ∷ [])) named
+      ∙ ap (λ j. Some (a_single u.turn u.word (tree_of j (map (use_after f removed) (kept_uses removed at.0.uses)))
+      ∷ [])) named
       ∙ ap (λ x. Some (a_single u.turn u.word x ∷ [])) (sym after)
       ∙ ap Some (sym (result-stays u k e)))
 
   -- a use of a record is rewritten so, in any context
-  pub rewrites-are : (c : Context) (u : Use) (k : ℕ) → IsNumberOf (length f.records) k → u.tree ≡ tree_of_record f k → Rewrites (removal_step f numbers) c u (result_of u k)
-  rewrites-are c u k n is = (let low = n.0 in (suc (length f.records), results-are (suc (length f.records)) c u k n is (omega (arith, low))))
+  pub rewrites-are : (c : Context) (u : Use) (k : ℕ) → IsNumberOf (length f.records) k → u.tree ≡ tree_of_record f k
+      → Rewrites (removal_step f numbers) c u (result_of u k)
+  rewrites-are c u k n is =
+      (let low = n.0 in (suc (length f.records), results-are (suc (length f.records)) c u k n is (omega (arith, low))))

@@ -10,9 +10,11 @@ some-same : {A : Type 0} (x y : A) → Some x ≡ Some y → x ≡ y
 some-same x y e = cc
 
 module _ (t : Tells) (old new : Shown) (source script target history : List ℕ) (apart : target ≢ history) where
-  pub rewrite-expands : IsRewritten t old new source script target history → WrittenExpands t new target (IsRewrittenRoot old source script)
+  pub rewrite-expands : IsRewritten t old new source script target history
+      → WrittenExpands t new target (IsRewrittenRoot old source script)
   rewrite-expands done text held written is =
       let due = done.2 held in
-      let here : new.written target ≡ Some done.0 = (done.3.2.written written).others target apart ∙ (done.3.1.written written).here in
+      let here : new.written target ≡ Some done.0 =
+      (done.3.2.written written).others target apart ∙ (done.3.1.written written).here in
       let same : done.0 ≡ text = some-same _ _ (sym here ∙ is) in
       (due.0, due.2, (due.1, due.3, due.4.root_after), subst (λ x. IsTextFor due.0 due.2 x) same due.4.stands)

@@ -16,13 +16,15 @@ use Rattle.tshape_data.specs.Laws.{RenumberingKeepsParts}
 use Rattle.tshape_data.specs.Parts.{Part, token, entry, located, payload_parts}
 use Rattle.tshape_data.specs.Locations.{renumbered_part, location_of_part}
 use Rattle.tshape_data.specs.declared.columns.Table.{Table}
-use Rattle.tshape_data.specs.declared.columns.Table.TheVariants.{Curve2s, Curves, Polygons, PolygonsOn, Surfaces, Meshes}
+use Rattle.tshape_data.specs.declared.columns.Table.TheVariants.{Curve2s, Curves, Polygons}
+use Rattle.tshape_data.specs.declared.columns.Table.TheVariants.{PolygonsOn, Surfaces, Meshes}
 use Rattle.tshape_data.specs.declared.head.Head.{Head}
 use Rattle.brep_file.specs.declared.records.Record.{Record}
 use Rattle.brep_file.specs.declared.file.File.{File}
 use Rattle.brep_file.specs.PlainRecords.{expansion_of, plain_root}
 use Rattle.brep_file.specs.Sound.{IsSound}
-use Rattle.brep_run.specs.Dress.{Dressed, dressed, dressed_part, entry_tokens, head_for, head_of, made_head, dress, full}
+use Rattle.brep_run.specs.Dress.{Dressed, dressed, dressed_part, entry_tokens}
+use Rattle.brep_run.specs.Dress.{head_for, head_of, made_head, dress, full}
 use Rattle.brep_run.specs.Dress.{token as dressed_token, entry as dressed_entry, word as dressed_word}
 use Rattle.location_words.specs.declared.pair.Pair.{Pair}
 use Rattle.location_table.specs.Laws.{PlacesHaveWords, WrittenIsHeld}
@@ -34,7 +36,9 @@ use Rattle.brep_run.proofs.RelabelledTrees.{relabelled-twice, relabelled-same}
 use Rattle.brep_run.proofs.WritingLaws.{WritingLaws}
 use Rattle.brep_run.proofs.WrittenSound.{data-listed, record-made, tree-made, plain-made, root-made, word-again}
 
-module _ (f : File) (root : Use) (can : CanBeWritten f root) (written : IsWritten root (flat root.tree)) (walk : RecordsAreTrees (records_of (flat root.tree))) (sound : IsSound f) (renumbering : RenumberingKeepsParts) (places : PlacesHaveWords)
+module _ (f : File) (root : Use) (can : CanBeWritten f root) (written : IsWritten root (flat root.tree))
+    (walk : RecordsAreTrees (records_of (flat root.tree))) (sound : IsSound f) (renumbering : RenumberingKeepsParts)
+    (places : PlacesHaveWords)
     (laws : WritingLaws) (law : WrittenIsHeld) where
   abbrev trees : List Tree
   trees = flat root.tree
@@ -59,14 +63,20 @@ module _ (f : File) (root : Use) (can : CanBeWritten f root) (written : IsWritte
   dressed_of x = dressed made (head_of made (origin x))
 
   expansion-made : expansion_of made ≡ again
-  expansion-made = λ i. expansion (plain-made f root can written sound renumbering places laws law i) (root-made f root can written sound renumbering places laws law i)
+  expansion-made =
+      λ i. expansion (plain-made f root can written sound renumbering places laws law i)
+      (root-made f root can written sound renumbering places laws law i)
 
   -- the number of a tree has the head under which the tree is written
-  head-made : (k : ℕ) (x : Tree) → slice_get trees (length trees - k) ≡ Some x → head_of made k ≡ written_head f location (head_for f x)
-  head-made k x e = ap (λ (o : Option Record). option_map_or (λ r. r.head) o made_head) (record-made f root can written sound renumbering places laws k x e)
+  head-made : (k : ℕ) (x : Tree) → slice_get trees (length trees - k) ≡ Some x
+      → head_of made k ≡ written_head f location (head_for f x)
+  head-made k x e =
+      ap (λ (o : Option Record). option_map_or (λ r. r.head) o made_head)
+      (record-made f root can written sound renumbering places laws k x e)
 
   -- the tree of a number is that of the record, with the origins put back
-  number-stands : (k : ℕ) (x : Tree) → IsNumberOf (length trees) k → slice_get trees (length trees - k) ≡ Some x → restore (tree_of_number (records_of trees) k) ≡ x
+  number-stands : (k : ℕ) (x : Tree) → IsNumberOf (length trees) k → slice_get trees (length trees - k) ≡ Some x
+      → restore (tree_of_number (records_of trees) k) ≡ x
   number-stands k x n e =
       ap (λ j. restore (tree_of_number (records_of trees) j)) (sym (written.lists.once k x n e))
       ∙ written.stands_for x (Contains-at trees (length trees - k) x e)
@@ -81,28 +91,35 @@ module _ (f : File) (root : Use) (can : CanBeWritten f root) (written : IsWritte
   entry-same Meshes n = refl
 
   -- the parts of data, dressed again, where the words of their locations are had again
-  parts-again : (ps : List Part) → ((n : ℕ) → Contains (flat_map location_of_part ps) n → word_of_place made.locations (location (word_of_place f.locations n)) ≡ word_of_place f.locations n) →
-      map (dressed_part made) (map (renumbered_part (λ n. location (word_of_place f.locations n))) ps) ≡ map (dressed_part f) ps
+  parts-again : (ps : List Part)
+      → ((n : ℕ) → Contains (flat_map location_of_part ps) n
+      → word_of_place made.locations (location (word_of_place f.locations n)) ≡ word_of_place f.locations n) →
+      map (dressed_part made) (map (renumbered_part (λ n. location (word_of_place f.locations n))) ps)
+      ≡ map (dressed_part f) ps
   parts-again [] again_at = refl
   parts-again (token text ∷ ps) again_at = ap (λ l. dressed_token text ∷ l) (parts-again ps again_at)
   parts-again (entry table n ∷ ps) again_at = λ i. dressed_entry (entry-same table n i) ∷ parts-again ps again_at i
   parts-again (located n ∷ ps) again_at =
-      λ i. dressed_word (again_at n (Contains-here n (flat_map location_of_part ps)) i) ∷ parts-again ps (λ m k. again_at m (Contains-there n m (flat_map location_of_part ps) k)) i
+      λ i. dressed_word (again_at n (Contains-here n (flat_map location_of_part ps)) i)
+      ∷ parts-again ps (λ m k. again_at m (Contains-there n m (flat_map location_of_part ps) k)) i
 
   -- the head that a tree is written with, dressed by the written file
   dressed-again : (x : Tree) → Contains trees x → dressed made (written_head f location (head_for f x)) ≡ dressed_for x
   dressed-again x m =
       let h : Head = head_for f x in
-      let same : map (dressed_part made) (payload_parts f.version (written_head f location h).payload) ≡ map (dressed_part f) (payload_parts f.version h.payload) =
+      let same : map (dressed_part made) (payload_parts f.version (written_head f location h).payload)
+      ≡ map (dressed_part f) (payload_parts f.version h.payload) =
       ap (map (dressed_part made)) (renumbering.parts f.version (λ n. location (word_of_place f.locations n)) h.payload)
       ∙ parts-again (payload_parts f.version h.payload)
-      (λ n k. word-again f root can written sound renumbering places laws law (word_of_place f.locations n) (data-listed f root can written sound renumbering places laws x n m k)) in
+      (λ n k. word-again f root can written sound renumbering places laws law (word_of_place f.locations n)
+      (data-listed f root can written sound renumbering places laws x n m k)) in
       λ i. record { kind = h.kind; parts = same i; flags = h.flags }
 
   same-dress : (y : Tree) → Contains (subtrees again.tree) y → dressed_of y ≡ dressed_for (restore y)
   same-dress y m =
       let stands = walk.below (number_in trees root.tree) y written.file.names_root m in
-      let n : IsNumberOf (length trees) (origin y) = subst (λ j. IsNumberOf j (origin y)) (length-map trees (λ x. map (numbered trees) (uses x))) stands.0 in
+      let n : IsNumberOf (length trees) (origin y) =
+      subst (λ j. IsNumberOf j (origin y)) (length-map trees (λ x. map (numbered trees) (uses x))) stands.0 in
       let at = tree-made f root can written sound renumbering places laws (origin y) n in
       ap (dressed made) (head-made (origin y) at.0 at.1)
       ∙ dressed-again at.0 (Contains-at trees (length trees - origin y) at.0 at.1)
@@ -125,6 +142,9 @@ module _ (f : File) (root : Use) (can : CanBeWritten f root) (written : IsWritte
     relabelled = ap (use_with_origins (origins_of trees)) expansion-made ∙ written.expands;
     version = refl;
     datums = law.datums_are (datums_of f.locations) (further_words (words_under f root));
-    shared = subst (λ records. IsShared records (plain_root made) (origins_of trees)) (sym (plain-made f root can written sound renumbering places laws law))
-        (subst (λ use_of. IsShared (records_of trees) use_of (origins_of trees)) (sym (root-made f root can written sound renumbering places laws law)) written.shared);
+    shared =
+        subst (λ records. IsShared records (plain_root made) (origins_of trees))
+        (sym (plain-made f root can written sound renumbering places laws law))
+        (subst (λ use_of. IsShared (records_of trees) use_of (origins_of trees))
+        (sym (root-made f root can written sound renumbering places laws law)) written.shared);
   }

@@ -3,7 +3,8 @@ use Rattle.std.proofs.Common.{◌≡◌, ℕ, inl, inr, List, Some, take, false,
 use Rattle.brep_desk.specs.Shown.{Shown, Tells, ChangesOnly}
 use Rattle.brep_desk.specs.Transfers.{NothingWritten}
 use Rattle.brep_run.specs.declared.outcome.Outcome.{Outcome}
-use Rattle.brep_run.specs.declared.outcome.Outcome.TheVariants.{Done, Usage, NotBuilt, Script, Limit, ReadDesk, WriteDesk, NoMemory}
+use Rattle.brep_run.specs.declared.outcome.Outcome.TheVariants.{Done, Usage, NotBuilt, Script, Limit}
+use Rattle.brep_run.specs.declared.outcome.Outcome.TheVariants.{ReadDesk, WriteDesk, NoMemory}
 use Rattle.brep_run.specs.declared.outcome.Outcome.TheVariants as outcomes
 use Rattle.brep_run.specs.Outcomes.{IfStopped}
 use Rattle.brep_run.specs.Copy.{PrefixWritten, IsDue}
@@ -14,9 +15,15 @@ module _ (t : Tells) (a b d : Shown) (source name text : List ℕ) (quiet : Noth
     held = part.held ∙ quiet.held;
     fits = part.fits;
     written = elim part.written [
-      | inl never ↦ inl (record { none = never.none; written = λ w. never.written w ∙ quiet.written w; ended = λ w. never.ended w ∙ quiet.ended w })
+      | inl never ↦ inl (record {
+        none = never.none;
+        written = λ w. never.written w
+            ∙ quiet.written w;
+        ended = λ w. never.ended w ∙ quiet.ended w;
+      })
       | inr stopped ↦ inr (record {
-        written = λ w. subst (λ f. ChangesOnly f d.written name (Some (take n text))) (quiet.written w) (stopped.written w);
+        written =
+            λ w. subst (λ f. ChangesOnly f d.written name (Some (take n text))) (quiet.written w) (stopped.written w);
         ended = λ w. subst (λ f. ChangesOnly f d.ended name false) (quiet.ended w) (stopped.ended w);
       })
     ];
@@ -24,7 +31,8 @@ module _ (t : Tells) (a b d : Shown) (source name text : List ℕ) (quiet : Noth
 
   pub stopped_after : IsDue t a source text → (o : Outcome) →
       IfStopped o (λ file taken. (file ≡ 1) × PrefixWritten t b d name text taken) →
-      IfStopped o (λ file taken. (file ≡ 1) × ((text : List ℕ) × IsDue t a source text × PrefixWritten t a d name text taken))
+      IfStopped o (λ file taken. (file ≡ 1)
+      × ((text : List ℕ) × IsDue t a source text × PrefixWritten t a d name text taken))
   stopped_after due Done h = tt
   stopped_after due Usage h = tt
   stopped_after due NotBuilt h = tt

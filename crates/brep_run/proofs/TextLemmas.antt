@@ -31,7 +31,8 @@ use Rattle.brep_run.proofs.CopyLemmas.{file-sound, expansion-writable}
 
 module _
     (roots_are_written : (root : Use) → IsWritten root (flat root.tree))
-    (records_are_trees : (records : List (List NumberedUse)) (root : NumberedUse) → IsFile records root → RecordsAreTrees records)
+    (records_are_trees : (records : List (List NumberedUse)) (root : NumberedUse) → IsFile records root
+    → RecordsAreTrees records)
     (fewest : (root : Use) → NoFileHasFewer root)
     (written_is_read : WrittenIsRead)
     (reading_is_exact : ReadingIsExact)
@@ -51,7 +52,10 @@ module _
 
     decimals_or_p-plain : (texts : List (List ℕ)) → AllByRecursion IsDecimalOrP texts → AllByRecursion IsPlain texts
     decimals_or_p-plain [] are = tt
-    decimals_or_p-plain (t ∷ texts) are = (elim are.0 [ inl d ↦ written_is_read.decimals t d | inr p ↦ subst IsPlain (sym p) refl ], decimals_or_p-plain texts are.1)
+    decimals_or_p-plain (t ∷ texts) are = (
+      elim are.0 [ inl d ↦ written_is_read.decimals t d | inr p ↦ subst IsPlain (sym p) refl ],
+      decimals_or_p-plain texts are.1,
+    )
 
     plain : EntriesArePlain
     plain = record {
@@ -70,8 +74,10 @@ module _
         record {
           spelled = (
             written_file f root,
-            layout-spells written_is_read plain heads (written_file f root) (written-sound f root can written sound renumbering places laws held),
-            written-stands f root can written (records_are_trees (records_of (flat root.tree)) (numbered (flat root.tree) root) written.file) sound renumbering places laws held,
+            layout-spells written_is_read plain heads (written_file f root)
+                (written-sound f root can written sound renumbering places laws held),
+            written-stands f root can written (records_are_trees (records_of (flat root.tree))
+                (numbered (flat root.tree) root) written.file) sound renumbering places laws held,
           );
           one = reading_is_exact.one (text_of f root);
         }
@@ -79,5 +85,8 @@ module _
     pub texts-stand : TextsStandForRoots
     texts-stand = record {
       texts = text-for;
-      copies = λ f sound. expansion-writable f sound (records_are_trees (plain_records f) (plain_root f) (file-sound f sound)) renumbering places laws (roots_are_written (expansion_of f)) (fewest (expansion_of f));
+      copies =
+          λ f sound. expansion-writable f sound (records_are_trees (plain_records f) (plain_root f)
+          (file-sound f sound)) renumbering places laws (roots_are_written (expansion_of f))
+          (fewest (expansion_of f));
     }

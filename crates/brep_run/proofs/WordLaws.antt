@@ -2,7 +2,8 @@
 use Rattle.std.proofs.Common.{◌≡◌, ℕ, List, [], ◌∷◌, Bool, true, false, if◌then◌else◌, refl, sym, subst, ◌∙◌}
 use Rattle.std.proofs.lemmas.Bool.{eq-eqb}
 use Rattle.std.specs.Prelude.{◌≢◌, ◌&&◌, not, codes}
-use Rattle.brep_run.specs.CommandLine.{copies, rewrites, later, wrong, is_word, may_copy, may_rewrite, copy_of_names, rewrite_of_names, is_later, command_line_of}
+use Rattle.brep_run.specs.CommandLine.{copies, rewrites, later, wrong, is_word, may_copy, may_rewrite}
+use Rattle.brep_run.specs.CommandLine.{copy_of_names, rewrite_of_names, is_later, command_line_of}
 
 text-same : (a : List ℕ) → is_word a a ≡ true
 text-same [] = refl
@@ -21,7 +22,8 @@ may-apart a b c d e same =
     cc
 
 module _ (s p t h : List ℕ) where
-  if-rewrites : (b : Bool) (a1 a2 a3 a4 : List ℕ) → (if b then rewrites a1 a2 a3 a4 else wrong) ≡ rewrites s p t h → (b ≡ true) × ((a3 ≡ t) × (a4 ≡ h))
+  if-rewrites : (b : Bool) (a1 a2 a3 a4 : List ℕ) → (if b then rewrites a1 a2 a3 a4 else wrong) ≡ rewrites s p t h
+      → (b ≡ true) × ((a3 ≡ t) × (a4 ≡ h))
   if-rewrites true a1 a2 a3 a4 e = (refl, (cc, cc))
   if-rewrites false a1 a2 a3 a4 e = cc
 
@@ -46,7 +48,8 @@ module _ (s p t h : List ℕ) where
   of-rewrite (a ∷ b ∷ c ∷ d ∷ x ∷ rest) e = cc
 
   pick : (x y z : Bool) (rest : List (List ℕ)) →
-      (if x then copy_of_names rest else (if y then rewrite_of_names rest else (if z then later else wrong))) ≡ rewrites s p t h → t ≢ h
+      (if x then copy_of_names rest else (if y then rewrite_of_names rest else (if z then later else wrong)))
+      ≡ rewrites s p t h → t ≢ h
   pick true y z rest e = absurd (of-copy rest e)
   pick false true z rest e = of-rewrite rest e
   pick false false true rest e = cc

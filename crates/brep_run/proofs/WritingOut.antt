@@ -1,5 +1,6 @@
 -- A name that is opened, written and ended has its text; one whose writing is stopped has a front of it.
-use Rattle.std.proofs.Common.{◌≡◌, ℕ, inl, inr, IsTrue, true, false, List, [], length, take, Some, sym, ap, subst, ◌∙◌, arith}
+use Rattle.std.proofs.Common.{◌≡◌, ℕ, inl, inr, IsTrue, true, false, List, []}
+use Rattle.std.proofs.Common.{length, take, Some, sym, ap, subst, ◌∙◌, arith}
 use Rattle.std.proofs.lemmas.List.{take_all}
 use Rattle.std.proofs.lemmas.Bool.{cases_eq}
 use Rattle.brep_desk.specs.Shown.{writing, Shown, Tells, AreTold, ChangesOnly, Same}
@@ -7,7 +8,8 @@ use Rattle.brep_desk.specs.Calls.{BeginsWriting, Ends, EndsName}
 use Rattle.brep_desk.specs.Transfers.{Appended, NoMoreOpen}
 use Rattle.brep_run.specs.Copy.{OutWritten, PrefixWritten, StoppedAt}
 
-module _ (t : Tells) (told : AreTold t) (a b d : Shown) (name : List ℕ) (c : ℕ) (text : List ℕ) (n : ℕ) (begins : BeginsWriting t a b name c) (app : Appended t b d c text n) where
+module _ (t : Tells) (told : AreTold t) (a b d : Shown) (name : List ℕ) (c : ℕ) (text : List ℕ) (n : ℕ)
+    (begins : BeginsWriting t a b name c) (app : Appended t b d c text n) where
   pub front : IsTrue t.written → ChangesOnly a.written d.written name (Some (take n text))
   front w =
       let o = told.ended (told.written w) in
@@ -42,7 +44,8 @@ module _ (t : Tells) (told : AreTold t) (a b d : Shown) (name : List ℕ) (c : �
   ended_then e ends w =
       let o = told.ended w in
       let use_is : d.opened c ≡ writing name = ap (λ f. f c) app.opened ∙ (begins.opened o).here in
-      let last : ChangesOnly d.ended e.ended name true = subst (λ u. EndsName u d.ended e.ended) use_is (ends.ended w) in
+      let last : ChangesOnly d.ended e.ended name true =
+      subst (λ u. EndsName u d.ended e.ended) use_is (ends.ended w) in
       record { here = last.here; others = λ k other. last.others k other ∙ (not_ended w).others k other }
 
   pub closed_then : (e : Shown) → Ends t d e c → IsTrue t.opened → NoMoreOpen a e
@@ -57,7 +60,11 @@ module _ (t : Tells) (told : AreTold t) (a b d : Shown) (name : List ℕ) (c : �
     held = ends.held ∙ app.held ∙ begins.held;
     written = λ w. (let f = front w in
         let full : take n text ≡ text = take_all n text (omega (arith, all)) in
-        record { here = ap (λ g. g name) ends.written ∙ f.here ∙ ap Some full; others = λ k other. ap (λ g. g k) ends.written ∙ f.others k other });
+        record {
+          here = ap (λ g. g name) ends.written ∙ f.here
+              ∙ ap Some full;
+          others = λ k other. ap (λ g. g k) ends.written ∙ f.others k other;
+        });
     ended = ended_then e ends;
     channels = closed_then e ends;
   }

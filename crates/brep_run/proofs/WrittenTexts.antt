@@ -1,6 +1,7 @@
 -- The text of a root over a sound file, by the numbers of records.
 use Rattle.std.proofs.Common.{◌≡◌, ◌<◌, ◌-◌, refl, sym, ◌∙◌, ap, subst, arith, append_assoc, append-nil}
-use Rattle.std.specs.Prelude.{ℕ, zero, suc, Some, List, [], ◌∷◌, ◌++◌, All, map, length, slice_get, slice_index, slice_index_or, codes}
+use Rattle.std.specs.Prelude.{ℕ, zero, suc, Some, List, [], ◌∷◌, ◌++◌, All, map}
+use Rattle.std.specs.Prelude.{length, slice_get, slice_index, slice_index_or, codes}
 use Rattle.std.specs.List.{flat_map}
 use Rattle.std.specs.Option.{option_map_or}
 use Rattle.std.proofs.lemmas.Grind.{flat_map-append}
@@ -23,7 +24,8 @@ use Rattle.brep_file.specs.PlainRecords.{record_of, tree_of_record, expansion_of
 use Rattle.brep_file.specs.Spelling.{spell_use}
 use Rattle.brep_run.specs.Layout.{Line, heading, location_lines, table_lines, shape_lines, record_lines, layout}
 use Rattle.brep_run.specs.WrittenFile.{location_under, written_use, written_record, written_file, text_of}
-use Rattle.brep_run.specs.Completion.{NumbersTell, ArePlaced, Completes, AreLocated, use_of_tree, renumbered_use, renumbered, lines_of_number, locations_of, locations_used}
+use Rattle.brep_run.specs.Completion.{NumbersTell, ArePlaced, Completes, AreLocated, use_of_tree, renumbered_use}
+use Rattle.brep_run.specs.Completion.{renumbered, lines_of_number, locations_of, locations_used}
 use Rattle.brep_run.proofs.Numbering.{head_is, uses_of_tree, number_of_tree}
 use Rattle.brep_run.proofs.LocatedTexts.{location-is, words-are}
 
@@ -32,7 +34,9 @@ at_place [] i lt = absurd (omega (arith, lt))
 at_place (x ∷ xs) zero lt = (x, refl)
 at_place (x ∷ xs) (suc i) lt = at_place xs i (omega (arith, lt))
 
-map_same : (g h : FileUse → FileUse) (us : List FileUse) → ((i : ℕ) (d : FileUse) → i < length us → g (slice_index_or us i d) ≡ h (slice_index_or us i d)) → map g us ≡ map h us
+map_same : (g h : FileUse → FileUse) (us : List FileUse)
+    → ((i : ℕ) (d : FileUse) → i < length us → g (slice_index_or us i d) ≡ h (slice_index_or us i d))
+    → map g us ≡ map h us
 map_same g h [] each = refl
 map_same g h (u ∷ us) each =
     let first : g u ≡ h u = each 0 u (omega arith) in
@@ -40,8 +44,11 @@ map_same g h (u ∷ us) each =
     λ i. first i ∷ rest i
 
 -- the parts of a layout
-shapes_text : (version : ℕ) (records : List Record) (root : FileUse) → lines_text (heading (codes "TShapes") (length records) ∷ (flat_map (record_lines version) records ++ spell_use root ∷ []))
-    ≡ line_text (heading (codes "TShapes") (length records)) ++ (lines_text (flat_map (record_lines version) records) ++ line_text (spell_use root))
+shapes_text : (version : ℕ) (records : List Record) (root : FileUse)
+    → lines_text (heading (codes "TShapes") (length records)
+    ∷ (flat_map (record_lines version) records ++ spell_use root ∷ []))
+    ≡ line_text (heading (codes "TShapes") (length records))
+    ++ (lines_text (flat_map (record_lines version) records) ++ line_text (spell_use root))
 shapes_text version records root =
     ap (λ t. line_text (heading (codes "TShapes") (length records)) ++ t)
     (flat_map-append line_text (flat_map (record_lines version) records) (spell_use root ∷ [])
@@ -50,42 +57,55 @@ shapes_text version records root =
 joined : (a b c d : List ℕ) → (a ++ 10 ∷ []) ++ (b ++ (c ++ d)) ≡ a ++ 10 ∷ ((b ++ c) ++ d)
 joined a b c d = simp append_assoc
 
-pub layout_text : (g : File) → layout g ≡ (version_line g.version ++ 10 ∷ []) ++ (lines_text (location_lines g.locations) ++ (lines_text (table_lines g) ++ lines_text (shape_lines g)))
+pub layout_text : (g : File)
+    → layout g ≡ (version_line g.version ++ 10 ∷ [])
+    ++ (lines_text (location_lines g.locations) ++ (lines_text (table_lines g) ++ lines_text (shape_lines g)))
 layout_text g =
     ap (λ t. version_line g.version ++ 10 ∷ t)
-    (flat_map-append line_text (location_lines g.locations ++ table_lines g) (shape_lines g) ∙ ap (λ t. t ++ lines_text (shape_lines g)) (flat_map-append line_text (location_lines g.locations) (table_lines g)))
-    ∙ sym (joined (version_line g.version) (lines_text (location_lines g.locations)) (lines_text (table_lines g)) (lines_text (shape_lines g)))
+    (flat_map-append line_text (location_lines g.locations ++ table_lines g) (shape_lines g)
+    ∙ ap (λ t. t ++ lines_text (shape_lines g))
+    (flat_map-append line_text (location_lines g.locations) (table_lines g)))
+    ∙ sym (joined (version_line g.version) (lines_text (location_lines g.locations)) (lines_text (table_lines g))
+    (lines_text (shape_lines g)))
 
-module _ (f : File) (tell : NumbersTell f) (numbers places : List ℕ) (placed : ArePlaced (length f.records) numbers places) where
-  pub uses_placed : (k : ℕ) (r : Record) → IsNumberOf (length f.records) k → record_of f k ≡ Some r → All (λ u. IsNumberOf (length places) u.number) r.uses
+module _ (f : File) (tell : NumbersTell f) (numbers places : List ℕ)
+    (placed : ArePlaced (length f.records) numbers places) where
+  pub uses_placed : (k : ℕ) (r : Record) → IsNumberOf (length f.records) k → record_of f k ≡ Some r
+      → All (λ u. IsNumberOf (length places) u.number) r.uses
   uses_placed k r n is i d lt =
       let u = (tell.sound.records k r n is).uses i d lt in
       let above = u.above in let named = u.named in let size = placed.size in
       (omega (arith, above), omega (arith, named, size))
 
-  pub named_item : (items : List ℕ) → items ≡ numbers → (i : ℕ) → i < length items → IsNumberOf (length f.records) (slice_index items i)
+  pub named_item : (items : List ℕ) → items ≡ numbers → (i : ℕ) → i < length items
+      → IsNumberOf (length f.records) (slice_index items i)
   named_item items same i lt =
-      subst (λ l. IsNumberOf (length f.records) (slice_index l i)) (sym same) (placed.named i (subst (λ (l : List ℕ). i < length l) same lt))
+      subst (λ l. IsNumberOf (length f.records) (slice_index l i)) (sym same)
+      (placed.named i (subst (λ (l : List ℕ). i < length l) same lt))
 
-  module _ (completes : Completes f f.root.number [] numbers) (s : WrittenLocations) (located : AreLocated f (locations_used f numbers) s) where
+  module _ (completes : Completes f f.root.number [] numbers) (s : WrittenLocations)
+      (located : AreLocated f (locations_used f numbers) s) where
     abbrev trees : List Tree
     trees = map (tree_of_record f) numbers
 
     abbrev location : List Pair → ℕ
     location = location_under f (expansion_of f)
 
-    use_is : (u : FileUse) → IsNumberOf (length f.records) u.number → written_use location trees (use_of_tree f u) ≡ renumbered_use numbers places (location_number s) u
+    use_is : (u : FileUse) → IsNumberOf (length f.records) u.number
+        → written_use location trees (use_of_tree f u) ≡ renumbered_use numbers places (location_number s) u
     use_is u n =
         let number = number_of_tree f tell numbers places placed u.number n in
         let place = location-is f tell numbers places placed completes s located u.location in
         λ i. record { turn = u.turn; number = number i; location = sym place i }
 
     uses_are : (k : ℕ) (r : Record) → IsNumberOf (length f.records) k → record_of f k ≡ Some r →
-        map (written_use location trees) (uses (tree_of_record f k)) ≡ map (renumbered_use numbers places (location_number s)) r.uses
+        map (written_use location trees) (uses (tree_of_record f k))
+        ≡ map (renumbered_use numbers places (location_number s)) r.uses
     uses_are k r n is =
         ap (map (written_use location trees)) (uses_of_tree f tell k r n is)
         ∙ map-map (written_use location trees) (use_of_tree f) r.uses
-        ∙ map_same (λ u. written_use location trees (use_of_tree f u)) (renumbered_use numbers places (location_number s)) r.uses (λ i d lt.
+        ∙ map_same (λ u. written_use location trees (use_of_tree f u))
+        (renumbered_use numbers places (location_number s)) r.uses (λ i d lt.
         let u = (tell.sound.records k r n is).uses i d lt in let above = u.above in
         use_is (slice_index_or r.uses i d) (omega (arith, above), u.named))
 
@@ -97,15 +117,19 @@ module _ (f : File) (tell : NumbersTell f) (numbers places : List ℕ) (placed :
         λ i. record { head = renumbered_head (λ j. sym (number j) i) (heads i); uses = all_uses i }
 
     lines_are : (k : ℕ) → IsNumberOf (length f.records) k →
-        lines_of_number f numbers places (location_number s) k ≡ lines_text (record_lines f.version (written_record f location trees (tree_of_record f k)))
+        lines_of_number f numbers places (location_number s) k
+        ≡ lines_text (record_lines f.version (written_record f location trees (tree_of_record f k)))
     lines_are k n =
         let low = n.0 in let high = n.1 in
         let r = at_place f.records (length f.records - k) (omega (arith, low, high)) in
-        ap (λ o. option_map_or (λ q. lines_text (record_lines f.version (renumbered numbers places (location_number s) q))) o []) r.1
+        ap (λ o. option_map_or (λ q. lines_text (record_lines f.version
+        (renumbered numbers places (location_number s) q))) o []) r.1
         ∙ ap (λ q. lines_text (record_lines f.version q)) (sym (record_is k r.0 n r.1))
 
     records_text : (ns : List ℕ) → ((i : ℕ) → i < length ns → IsNumberOf (length f.records) (slice_index ns i)) →
-        flat_map (lines_of_number f numbers places (location_number s)) ns ≡ lines_text (flat_map (record_lines f.version) (map (written_record f location trees) (map (tree_of_record f) ns)))
+        flat_map (lines_of_number f numbers places (location_number s)) ns
+        ≡ lines_text (flat_map (record_lines f.version)
+        (map (written_record f location trees) (map (tree_of_record f) ns)))
     records_text [] named = refl
     records_text (k ∷ ns) named =
         let first = lines_are k (named 0 (omega arith)) in
@@ -116,13 +140,21 @@ module _ (f : File) (tell : NumbersTell f) (numbers places : List ℕ) (placed :
 
     -- the lines of the records and the root use
     pub shapes_are : lines_text (shape_lines (written_file f (expansion_of f)))
-        ≡ line_text (heading (codes "TShapes") (length numbers)) ++ (flat_map (lines_of_number f numbers places (location_number s)) numbers ++ line_text (spell_use (renumbered_use numbers places (location_number s) f.root)))
+        ≡ line_text (heading (codes "TShapes") (length numbers))
+        ++ (flat_map (lines_of_number f numbers places (location_number s)) numbers
+        ++ line_text (spell_use (renumbered_use numbers places (location_number s) f.root)))
     shapes_are =
         let written : List Record = map (written_record f location trees) trees in
-        let long : length written ≡ length numbers = length-map trees (written_record f location trees) ∙ length-map numbers (tree_of_record f) in
-        let same_root : written_use location trees (expansion_of f) ≡ renumbered_use numbers places (location_number s) f.root = use_is f.root tell.sound.root in
-        let same_lines : lines_text (flat_map (record_lines f.version) written) ≡ flat_map (lines_of_number f numbers places (location_number s)) numbers = sym (records_text numbers placed.named) in
-        ap (λ ts. lines_text (heading (codes "TShapes") (length (map (written_record f location ts) ts)) ∷ (flat_map (record_lines f.version) (map (written_record f location ts) ts) ++ spell_use (written_use location ts (expansion_of f)) ∷ []))) (sym completes.trees)
+        let long : length written ≡ length numbers =
+        length-map trees (written_record f location trees) ∙ length-map numbers (tree_of_record f) in
+        let same_root : written_use location trees (expansion_of f)
+        ≡ renumbered_use numbers places (location_number s) f.root = use_is f.root tell.sound.root in
+        let same_lines : lines_text (flat_map (record_lines f.version) written)
+        ≡ flat_map (lines_of_number f numbers places (location_number s)) numbers =
+        sym (records_text numbers placed.named) in
+        ap (λ ts. lines_text (heading (codes "TShapes") (length (map (written_record f location ts) ts))
+        ∷ (flat_map (record_lines f.version) (map (written_record f location ts) ts)
+        ++ spell_use (written_use location ts (expansion_of f)) ∷ []))) (sym completes.trees)
         ∙ shapes_text f.version written (written_use location trees (expansion_of f))
         ∙ (λ i. line_text (heading (codes "TShapes") (long i)) ++ (same_lines i ++ line_text (spell_use (same_root i))))
 
@@ -136,12 +168,16 @@ module _ (f : File) (tell : NumbersTell f) (numbers places : List ℕ) (placed :
 parted : (a b c d : List ℕ) → (a ++ 10 ∷ []) ++ (b ++ (c ++ d)) ≡ (((a ++ 10 ∷ []) ++ b) ++ c) ++ d
 parted a b c d = simp append_assoc
 
-pub text_parts : (f : File) (root : Use) (lines : List Line) → lines ≡ location_lines (written_file f root).locations → text_of f root
-    ≡ (((version_line f.version ++ 10 ∷ []) ++ lines_text lines) ++ lines_text (table_lines f)) ++ lines_text (shape_lines (written_file f root))
+pub text_parts : (f : File) (root : Use) (lines : List Line) → lines ≡ location_lines (written_file f root).locations
+    → text_of f root
+    ≡ (((version_line f.version ++ 10 ∷ []) ++ lines_text lines) ++ lines_text (table_lines f))
+    ++ lines_text (shape_lines (written_file f root))
 text_parts f root lines same =
     layout_text (written_file f root)
-    ∙ parted (version_line f.version) (lines_text (location_lines (written_file f root).locations)) (lines_text (table_lines f)) (lines_text (shape_lines (written_file f root)))
-    ∙ (λ i. (((version_line f.version ++ 10 ∷ []) ++ lines_text (same_back i)) ++ lines_text (table_lines f)) ++ lines_text (shape_lines (written_file f root)))
+    ∙ parted (version_line f.version) (lines_text (location_lines (written_file f root).locations))
+    (lines_text (table_lines f)) (lines_text (shape_lines (written_file f root)))
+    ∙ (λ i. (((version_line f.version ++ 10 ∷ []) ++ lines_text (same_back i)) ++ lines_text (table_lines f))
+    ++ lines_text (shape_lines (written_file f root)))
   where
     same_back : location_lines (written_file f root).locations ≡ lines
     same_back = sym same

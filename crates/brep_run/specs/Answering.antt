@@ -1,5 +1,6 @@
 -- What a run answers for what the names that it reads hold, where no call of the desk fails and memory is there.
-use Rattle.std.specs.Prelude.{◌≡◌, ◌⊎◌, ℕ, ◌+◌, if◌then◌else◌, nat_lt, List, length, Option, Some, None, Result, Ok, Err}
+use Rattle.std.specs.Prelude.{◌≡◌, ◌⊎◌, ℕ, ◌+◌, if◌then◌else◌, nat_lt, List}
+use Rattle.std.specs.Prelude.{length, Option, Some, None, Result, Ok, Err}
 use Rattle.brep_desk.specs.Shown.{Shown, Tells}
 use Rattle.brep_desk.specs.Causes.{Rose}
 use Rattle.brep_tokens.specs.declared.fault.ReadFault.{ReadFault}
@@ -45,9 +46,12 @@ if_file next (Some bytes) = within FileBytes most_bytes (length bytes) (if_read 
 -- ---- reading SCRIPT: its length, then its number of lines, then its first faulty line
 
 abbrev pub line_answer : ℕ → ℕ → ℕ → LineFault → Outcome
-line_answer shapes locations line line_faults.Syntax = outcomes.Script (record { line = line; code = Syntax; first = 0; second = 0 })
-line_answer shapes locations line (line_faults.NoSuchShape n) = outcomes.Script (record { line = line; code = NoSuchShape; first = n; second = shapes })
-line_answer shapes locations line (line_faults.NoSuchLocation n) = outcomes.Script (record { line = line; code = NoSuchLocation; first = n; second = locations })
+line_answer shapes locations line line_faults.Syntax =
+    outcomes.Script (record { line = line; code = Syntax; first = 0; second = 0 })
+line_answer shapes locations line (line_faults.NoSuchShape n) =
+    outcomes.Script (record { line = line; code = NoSuchShape; first = n; second = shapes })
+line_answer shapes locations line (line_faults.NoSuchLocation n) =
+    outcomes.Script (record { line = line; code = NoSuchLocation; first = n; second = locations })
 line_answer shapes locations line line_faults.NoMemory = outcomes.NoMemory
 
 abbrev pub if_removals : ℕ → ℕ → ScriptGiven → Outcome
@@ -77,8 +81,8 @@ answer_for old wrong = outcome outcomes.Usage
 abbrev pub answer_to : Tells → Shown → List (List ℕ) → Answer
 answer_to t old words = if t.held then answer_for old (command_line_of words) else untold
 
--- The answer comes or want of memory, where the count of faults didn't rise; where a name isn't held, in any case a fault of
--- reading or want of memory.
+-- The answer comes or want of memory, where the count of faults didn't rise; where a name isn't held, in any case a
+-- fault of reading or want of memory.
 abbrev pub Answers : Outcome → Answer → ℕ → ℕ → Type 0
 Answers result (outcome due) entry exit = (Rose entry exit → ⊥) → (result ≡ due) ⊎ (result ≡ outcomes.NoMemory)
 Answers result reading_fails entry exit = IsReadDeskOrNoMemory result

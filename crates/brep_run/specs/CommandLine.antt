@@ -17,7 +17,8 @@ pub data CommandLine : Type 0 where
 abbrev pub is_word : List ℕ → List ℕ → Bool
 is_word a b = pointwise nat_eq a b
 
--- one name may not be read and written, but `-` may: it is standard input where it is read, and standard output where it is written
+-- one name may not be read and written, but `-` may: it is standard input where it is read, and standard output where
+-- it is written
 abbrev pub may_copy : List ℕ → List ℕ → Bool
 may_copy source target = not (is_word source target) || is_word source (codes "-")
 

@@ -19,17 +19,19 @@ use Rattle.brep_file.specs.Reads.{Spells}
 pub record CanBeWritten (f : File) (root : Use) : Type 0 where
   -- each origin is 0 or the number of a record
   pub origins : (x : Tree) → Contains (subtrees root.tree) x → (origin x ≡ 0) ⊎ IsNumberOf (length f.records) (origin x)
-  pub in_order : (x : Tree) (u : Use) → Contains (subtrees root.tree) x → Contains (uses x) u → IsBelow (head_for f u.tree).kind (head_for f x).kind
+  pub in_order : (x : Tree) (u : Use) → Contains (subtrees root.tree) x → Contains (uses x) u
+      → IsBelow (head_for f u.tree).kind (head_for f x).kind
   -- each word is within the limits, and over the file's datums
-  pub words : (x : Tree) (u : Use) → Contains (subtrees root.tree) x → Contains (uses x) u → IsWordOver (length (datums_of f.locations)) u.word
+  pub words : (x : Tree) (u : Use) → Contains (subtrees root.tree) x → Contains (uses x) u
+      → IsWordOver (length (datums_of f.locations)) u.word
   pub root_word : IsWordOver (length (datums_of f.locations)) root.word
   pub shallow : depth root.tree ≤ 512
   pub countable : length (flat root.tree) < 10 ^ 18
   pub few_words : length (locations_under f root) < 10 ^ 18
 
 -- The full expansion of the file `g` is the root dressed by `f`; with its origins put back, the expansion of `g` is the
--- root; it has the version and the datums of `f`; and two occurrences of `g` go through one record exactly where their trees,
--- so relabelled, are equal.
+-- root; it has the version and the datums of `f`; and two occurrences of `g` go through one record exactly where their
+-- trees, so relabelled, are equal.
 pub record StandsFor (f : File) (root : Use) (g : File) : Type 0 where
   pub dressed : full g ≡ dress f root
   pub relabelled : use_with_origins (origins_of (flat root.tree)) (expansion_of g) ≡ root
@@ -42,11 +44,13 @@ pub record IsTextFor (f : File) (root : Use) (text : List ℕ) : Type 0 where
   pub spelled : (g : File) × Spells text g × StandsFor f root g
   pub one : (g h : File) → Spells text g → Spells text h → g ≡ h
 
--- Two occurrences in the file `g` go through one record exactly where their trees, with the origins put back, are equal.
+-- Two occurrences in the file `g` go through one record exactly where their trees, with the origins put back, are
+-- equal.
 abbrev pub SharesEqualTrees : Use → File → Type 0
 SharesEqualTrees root g =
     (x y : Tree) → Contains (subtrees (expansion_of g).tree) x → Contains (subtrees (expansion_of g).tree) y →
-    (origin x ≡ origin y) ↔ (with_origins (origins_of (flat root.tree)) x ≡ with_origins (origins_of (flat root.tree)) y)
+    (origin x ≡ origin y)
+    ↔ (with_origins (origins_of (flat root.tree)) x ≡ with_origins (origins_of (flat root.tree)) y)
 
 -- Each root that can be written is written as a text for it, and the expansion of a sound file can be written.
 pub record TextsStandForRoots : Type 0 where

@@ -1,7 +1,7 @@
 -- What stands after a copy, whole or stopped.
-use Rattle.std.specs.Prelude.{ℕ, ◌≡◌, ◌⊎◌, ◌≤◌, IsTrue, true, false, List, length, take, Some, Err}
+use Rattle.std.specs.Prelude.{ℕ, ◌+◌, ◌≡◌, ◌⊎◌, ◌≤◌, IsTrue, true, false, List, length, take, Some, Err}
 use Rattle.brep_desk.specs.Shown.{Shown, Tells, ChangesOnly}
-use Rattle.brep_desk.specs.Transfers.{NoMoreOpen}
+use Rattle.brep_desk.specs.Transfers.{NoMoreOpen, IsLonger}
 use Rattle.brep_desk.specs.Causes.{Rose}
 use Rattle.brep_tokens.specs.declared.fault.ReadFault.{ReadFault}
 use Rattle.brep_file.specs.declared.file.File.{File}
@@ -9,6 +9,8 @@ use Rattle.brep_file.specs.FileReading.{read_text}
 use Rattle.brep_file.specs.Sound.{file_limits}
 use Rattle.brep_file.specs.PlainRecords.{expansion_of}
 use Rattle.brep_file.specs.Reads.{Reads}
+use Rattle.brep_run.specs.declared.outcome.LimitKind.{LimitKind}
+use Rattle.brep_run.specs.declared.outcome.LimitKind.TheVariants.{FileBytes}
 use Rattle.brep_run.specs.WrittenFile.{text_of}
 
 -- the greatest number of bytes of a file
@@ -39,6 +41,10 @@ pub record PrefixWritten (t : Tells) (old new : Shown) (target text : List ℕ) 
   pub fits : taken ≤ length text
   pub written : NeverBegan t old new taken ⊎ StoppedAt t old new target text taken
 
+-- the writing of the first output was stopped, after so many bytes of the text
+abbrev pub FirstStopped : Tells → Shown → Shown → List ℕ → List ℕ → ℕ → ℕ → Type 0
+FirstStopped t old new target text file taken = (file ≡ 1) × PrefixWritten t old new target text taken
+
 -- the bytes are a file's, and the text is the written layout of the file's expansion
 pub record IsCopyOf (bytes text : List ℕ) (f : File) : Type 0 where
   pub reads : Reads bytes f
@@ -58,6 +64,19 @@ pub record HoldsFault (old : Shown) (source : List ℕ) (fault : ReadFault) : Ty
 
 abbrev pub IsDue : Tells → Shown → List ℕ → List ℕ → Type 0
 IsDue t old source text = IsTrue t.held → (bytes : List ℕ) × (f : File) × Holds old source bytes × IsCopyOf bytes text f
+
+-- the text that is due stands whole under the name
+abbrev pub IsCopied : Tells → Shown → Shown → List ℕ → List ℕ → Type 0
+IsCopied t old new source target = (text : List ℕ) × IsDue t old source text × OutWritten t old new target text
+
+-- the writing of the text that is due was stopped
+abbrev pub IsCopyStopped : Tells → Shown → Shown → List ℕ → List ℕ → ℕ → ℕ → Type 0
+IsCopyStopped t old new source target file taken =
+    (file ≡ 1) × ((text : List ℕ) × IsDue t old source text × PrefixWritten t old new target text taken)
+
+-- the file has more bytes than the limit
+abbrev pub IsFileLimit : Tells → Shown → List ℕ → LimitKind → ℕ → Type 0
+IsFileLimit t old source which count = (which ≡ FileBytes) × (count ≡ most_bytes + 1) × IsLonger t old source most_bytes
 
 -- the counts of a fault: after the one at entry, and up to the one at exit
 pub record Counts (entry exit before after : ℕ) : Type 0 where

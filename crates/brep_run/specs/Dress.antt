@@ -14,7 +14,8 @@ use Rattle.expansion_laws.specs.Sharing.{relabelled_use}
 use Rattle.tshape_data.specs.Parts.{Part, payload_parts}
 use Rattle.tshape_data.specs.Parts as parts
 use Rattle.tshape_data.specs.declared.columns.Table.{Table}
-use Rattle.tshape_data.specs.declared.columns.Table.TheVariants.{Curve2s, Curves, Polygons, PolygonsOn, Surfaces, Meshes}
+use Rattle.tshape_data.specs.declared.columns.Table.TheVariants.{Curve2s, Curves, Polygons}
+use Rattle.tshape_data.specs.declared.columns.Table.TheVariants.{PolygonsOn, Surfaces, Meshes}
 use Rattle.tshape_data.specs.declared.head.Flags.{Flags}
 use Rattle.tshape_data.specs.declared.head.Payload.TheVariants.{Nothing}
 use Rattle.tshape_data.specs.declared.head.Head.{Head}
@@ -58,11 +59,27 @@ pub record Dressed : Type 0 where
   pub flags : Flags
 
 abbrev pub dressed : File → Head → Dressed
-dressed f h = record { kind = h.kind; parts = map (dressed_part f) (payload_parts f.version h.payload); flags = h.flags }
+dressed f h = record {
+  kind = h.kind;
+  parts = map (dressed_part f) (payload_parts f.version h.payload);
+  flags = h.flags;
+}
 
 -- the compound that is made at the root
 abbrev pub made_head : Head
-made_head = record { kind = Co; payload = Nothing; flags = record { free = true; modified = true; checked = false; orientable = true; closed = false; infinite = false; convex = false } }
+made_head = record {
+  kind = Co;
+  payload = Nothing;
+  flags = record {
+    free = true;
+    modified = true;
+    checked = false;
+    orientable = true;
+    closed = false;
+    infinite = false;
+    convex = false;
+  };
+}
 
 -- the head of a rebuilt record
 abbrev pub rebuilt : Head → Head
@@ -70,7 +87,9 @@ rebuilt h = record h { flags = record h.flags { modified = true; checked = false
 
 -- The head under which a tree is written: that of its origin's record, as rebuilt where it isn't that record's tree.
 abbrev pub head_for : File → Tree → Head
-head_for f x = option_map_or (λ r. if tree_eq x (tree_of_record f (origin x)) then r.head else rebuilt r.head) (record_of f (origin x)) made_head
+head_for f x =
+    option_map_or (λ r. if tree_eq x (tree_of_record f (origin x)) then r.head else rebuilt r.head)
+    (record_of f (origin x)) made_head
 
 -- a tree over a file's records, dressed
 abbrev pub dress : File → Use → LabelledUse Dressed

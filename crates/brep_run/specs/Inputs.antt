@@ -7,14 +7,14 @@ use Rattle.brep_run.specs.declared.outcome.Outcome.{Outcome}
 use Rattle.brep_run.specs.declared.outcome.Outcome.TheVariants as outcomes
 use Rattle.brep_run.specs.declared.outcome.LimitKind.{LimitKind}
 use Rattle.brep_run.specs.declared.outcome.LimitKind.TheVariants.{FileBytes, ScriptBytes, ScriptLines}
-use Rattle.brep_run.specs.Copy.{Counts, HoldsFault, most_bytes}
+use Rattle.brep_run.specs.Copy.{Counts, HoldsFault, IsFileLimit}
 use Rattle.brep_run.specs.Rewrite.{HasMoreLines, given_for, location_count, most_script_bytes, most_script_lines}
 use Rattle.brep_run.specs.Script.{IsRefusedAt, unbuilt}
 
 -- why no file is read from the source
 abbrev pub IsInputStop : Tells → Shown → List ℕ → ℕ → ℕ → Outcome → Type 0
 IsInputStop t old source entry exit (outcomes.ReadDesk before after) = Counts entry exit before after
-IsInputStop t old source entry exit (outcomes.Limit which count) = (which ≡ FileBytes) × (count ≡ most_bytes + 1) × IsLonger t old source most_bytes
+IsInputStop t old source entry exit (outcomes.Limit which count) = IsFileLimit t old source which count
 IsInputStop t old source entry exit (outcomes.File fault) = IsTrue t.held → HoldsFault old source fault
 IsInputStop t old source entry exit outcomes.NoMemory = Unit {0}
 IsInputStop t old source entry exit _ = ⊥
@@ -23,7 +23,8 @@ IsInputStop t old source entry exit _ = ⊥
 abbrev pub IsScriptLimit : Tells → Shown → List ℕ → LimitKind → ℕ → Type 0
 IsScriptLimit t old script FileBytes count = ⊥
 IsScriptLimit t old script ScriptBytes count = (count ≡ most_script_bytes + 1) × IsLonger t old script most_script_bytes
-IsScriptLimit t old script ScriptLines count = (count ≡ most_script_lines + 1) × (IsTrue t.held → HasMoreLines old script)
+IsScriptLimit t old script ScriptLines count =
+    (count ≡ most_script_lines + 1) × (IsTrue t.held → HasMoreLines old script)
 
 -- why no script is read from the name
 abbrev pub IsScriptStop : Tells → Shown → List ℕ → ℕ → ℕ → Outcome → Type 0
@@ -35,6 +36,7 @@ IsScriptStop t old script entry exit _ = ⊥
 -- why these lines remove nothing from the file
 abbrev pub IsLinesStop : File → List ℕ → Outcome → Type 0
 IsLinesStop f lines outcomes.NotBuilt = given_for f lines ≡ unbuilt
-IsLinesStop f lines (outcomes.Script fault) = IsRefusedAt (length f.records) (location_count f) (given_for f lines) fault
+IsLinesStop f lines (outcomes.Script fault) =
+    IsRefusedAt (length f.records) (location_count f) (given_for f lines) fault
 IsLinesStop f lines outcomes.NoMemory = Unit {0}
 IsLinesStop f lines _ = ⊥

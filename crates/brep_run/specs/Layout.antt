@@ -1,11 +1,15 @@
 -- The written layout of a file: which words stand on which line.
 use Rattle.std.specs.Prelude.{ℕ, List, [], ◌∷◌, ◌++◌, length, map, codes}
 use Rattle.std.specs.List.{flat_map}
-use Rattle.std.specs.Fmt.{decimal}
+use Rattle.std.specs.Fmt.{decimal, signed_decimal}
 use Rattle.brep_tokens.specs.Tokens.{version_line}
 use Rattle.brep_tokens.specs.Written.{lines_text}
+use Rattle.location_words.specs.declared.pair.Pair.{Pair}
 use Rattle.location_table.specs.Locations.{spell_location}
+use Rattle.location_table.specs.Words.{datums_of}
+use Rattle.location_table.specs.Written.{product_of}
 use Rattle.location_table.specs.declared.entry.LocationEntry.{LocationEntry}
+use Rattle.location_table.specs.declared.entry.LocationEntry.TheVariants.{Datum}
 use Rattle.curve_tables.specs.Spelling.{spelling2, spelling3}
 use Rattle.mesh_tables.specs.Spelling.{spell_polygon, spell_polygon_on, spell_mesh}
 use Rattle.surface_tables.specs.Spelling.{spell_surface}
@@ -28,6 +32,26 @@ section_lines word spell entries = heading word (length entries) ∷ map spell e
 abbrev pub location_lines : List LocationEntry → List Line
 location_lines locations = section_lines (codes "Locations") spell_location locations
 
+-- its text
+abbrev pub section_text : {A : Type 0} → List ℕ → (A → Line) → List A → List ℕ
+section_text word spell entries = lines_text (section_lines word spell entries)
+
+-- the text of the section of locations
+abbrev pub locations_text : List LocationEntry → List ℕ
+locations_text locations = lines_text (location_lines locations)
+
+-- the lines of a section's datums
+abbrev pub datums_text : List LocationEntry → List ℕ
+datums_text section = lines_text (map spell_location (map Datum (datums_of section)))
+
+-- the lines of words that are neither the identity nor one datum
+abbrev pub words_text : List (List Pair) → List ℕ
+words_text words = lines_text (map spell_location (map product_of words))
+
+-- the number and the power of a pair, each after a space
+abbrev pub pair_text : Pair → List ℕ
+pair_text pair = 32 ∷ (decimal pair.datum ++ 32 ∷ signed_decimal pair.power)
+
 -- the sections after the locations and before the records
 abbrev pub table_lines : File → List Line
 table_lines f =
@@ -38,13 +62,20 @@ table_lines f =
     ++ (section_lines (codes "Surfaces") spell_surface f.surfaces
     ++ section_lines (codes "Triangulations") spell_mesh f.meshes))))
 
+-- all that comes before the records: the version line, these locations and the tables
+abbrev pub text_before_records : File → List LocationEntry → List ℕ
+text_before_records f locations =
+    ((version_line f.version ++ 10 ∷ []) ++ lines_text (location_lines locations)) ++ lines_text (table_lines f)
+
 -- a record of a file of a version: its kind, its data, an empty line, its flags, and its uses with `*`
 abbrev pub record_lines : ℕ → Record → List Line
 record_lines version r = head_lines version r.head ++ (flat_map spell_use r.uses ++ codes "*" ∷ []) ∷ []
 
 -- the heading of the records, the records and the root use
 abbrev pub shape_lines : File → List Line
-shape_lines f = heading (codes "TShapes") (length f.records) ∷ (flat_map (record_lines f.version) f.records ++ spell_use f.root ∷ [])
+shape_lines f =
+    heading (codes "TShapes") (length f.records)
+    ∷ (flat_map (record_lines f.version) f.records ++ spell_use f.root ∷ [])
 
 -- the lines after the version line
 abbrev pub file_lines : File → List Line

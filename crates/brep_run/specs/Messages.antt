@@ -3,8 +3,13 @@ use Rattle.std.specs.Prelude.{ℕ, List, [], ◌++◌, codes}
 use Rattle.std.specs.Fmt.{decimal}
 use Rattle.brep_run.specs.declared.outcome.Outcome.{Outcome}
 use Rattle.brep_tokens.specs.declared.fault.ReadCode.{ReadCode}
-use Rattle.brep_tokens.specs.declared.fault.ReadCode.TheVariants.{NoVersion, VersionNotRead, WordExpected, NumberExpected, DecimalExpected, FlagExpected, TokenTooLong, UnknownCode, IndexOutOfRange, UseExpected, NotAbove, KindOrder, TooDeep, TooMany, NestLimit, WordLimit, Truncated, Tail}
-use Rattle.brep_run.specs.declared.outcome.Outcome.TheVariants.{Done, Usage, NotBuilt, File, Script, Limit, ReadDesk, WriteDesk, NoMemory}
+use Rattle.brep_tokens.specs.declared.fault.ReadCode.TheVariants.{NoVersion, VersionNotRead, WordExpected}
+use Rattle.brep_tokens.specs.declared.fault.ReadCode.TheVariants.{NumberExpected, DecimalExpected, FlagExpected}
+use Rattle.brep_tokens.specs.declared.fault.ReadCode.TheVariants.{TokenTooLong, UnknownCode, IndexOutOfRange}
+use Rattle.brep_tokens.specs.declared.fault.ReadCode.TheVariants.{UseExpected, NotAbove, KindOrder, TooDeep}
+use Rattle.brep_tokens.specs.declared.fault.ReadCode.TheVariants.{TooMany, NestLimit, WordLimit, Truncated, Tail}
+use Rattle.brep_run.specs.declared.outcome.Outcome.TheVariants.{Done, Usage, NotBuilt, File, Script}
+use Rattle.brep_run.specs.declared.outcome.Outcome.TheVariants.{Limit, ReadDesk, WriteDesk, NoMemory}
 use Rattle.brep_run.specs.declared.outcome.LimitKind.{LimitKind}
 use Rattle.brep_run.specs.declared.outcome.LimitKind.TheVariants.{FileBytes, ScriptBytes, ScriptLines}
 use Rattle.brep_run.specs.declared.outcome.ScriptCode.{ScriptCode}
@@ -53,13 +58,18 @@ script_word NoSuchLocation = codes "no-such-location"
 
 abbrev pub message_of : Outcome → List ℕ
 message_of Done = []
-message_of Usage = codes "usage: copy IN OUT; rewrite IN SCRIPT OUT HIST; list IN KIND OUT; walk IN KIND N OUT; gen SEED LEVELS OUT"
+message_of Usage =
+    codes "usage: copy IN OUT; rewrite IN SCRIPT OUT HIST; list IN KIND OUT; walk IN KIND N OUT; gen SEED LEVELS OUT"
 message_of (Limit which count) = codes "limit " ++ (limit_word which ++ (codes " " ++ decimal count))
 message_of (File fault) =
-    codes "file " ++ (code_word fault.code ++ (codes " at " ++ (decimal fault.offset ++ (codes " value " ++ (decimal fault.value ++ (codes " limit " ++ decimal fault.limit))))))
+    codes "file " ++ (code_word fault.code ++ (codes " at " ++ (decimal fault.offset
+    ++ (codes " value " ++ (decimal fault.value ++ (codes " limit " ++ decimal fault.limit))))))
 message_of (Script fault) =
-    codes "script line " ++ (decimal fault.line ++ (codes " " ++ (script_word fault.code ++ (codes " " ++ (decimal fault.first ++ (codes " " ++ decimal fault.second))))))
+    codes "script line " ++ (decimal fault.line ++ (codes " " ++ (script_word fault.code
+    ++ (codes " " ++ (decimal fault.first ++ (codes " " ++ decimal fault.second))))))
 message_of (ReadDesk before after) = codes "read fault " ++ (decimal before ++ (codes " " ++ decimal after))
-message_of (WriteDesk before after file taken) = codes "write fault " ++ (decimal before ++ (codes " " ++ (decimal after ++ (codes " file " ++ (decimal file ++ (codes " taken " ++ decimal taken))))))
+message_of (WriteDesk before after file taken) =
+    codes "write fault " ++ (decimal before ++ (codes " " ++ (decimal after
+    ++ (codes " file " ++ (decimal file ++ (codes " taken " ++ decimal taken))))))
 message_of NoMemory = codes "no memory"
 message_of NotBuilt = codes "not built"

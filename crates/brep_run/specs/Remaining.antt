@@ -1,5 +1,6 @@
 -- What remains of a file's records when some are removed, record by record.
-use Rattle.std.specs.Prelude.{◌≡◌, ℕ, zero, suc, ◌-◌, ◌==◌, ◌&&◌, ◌||◌, not, Bool, true, false, if◌then◌else◌, Some, List, [], ◌∷◌, ◌++◌, map, length, reverse, slice_index}
+use Rattle.std.specs.Prelude.{◌≡◌, ℕ, zero, suc, ◌-◌, ◌==◌, ◌&&◌, ◌||◌, not, Bool, true, false}
+use Rattle.std.specs.Prelude.{if◌then◌else◌, Some, List, [], ◌∷◌, ◌++◌, map, length, reverse, slice_index}
 use Rattle.std.specs.List.{list_any}
 use Rattle.orientation.specs.declared.kind.Kind.{Kind}
 use Rattle.orientation.specs.declared.kind.Kind.TheVariants.{Ve, Ed, Fa, So}
@@ -12,6 +13,7 @@ use Rattle.brep_file.specs.declared.records.Record.{Record}
 use Rattle.brep_file.specs.declared.file.File.{File}
 use Rattle.brep_file.specs.Marks.{kept_uses, mark_of}
 use Rattle.brep_file.specs.PlainRecords.{plain_use, record_of, tree_of_record, expansion_of}
+use Rattle.brep_run.specs.declared.removal.Removal.{Removal}
 use Rattle.brep_run.specs.Dress.{head_for, head_of, rebuilt}
 use Rattle.brep_run.specs.Completion.{ArePlaced, Completes, new_number}
 use Rattle.brep_run.specs.WrittenFile.{text_of}
@@ -41,7 +43,8 @@ record_after f removed k r = record { head = head_for f (tree_after f removed k)
 pub record IsFileAfter (f : File) (removed : ℕ → Bool) (g : File) : Type 0 where
   pub others : g ≡ record f { records = g.records }
   pub size : length g.records ≡ length f.records
-  pub records : (k : ℕ) (r : Record) → IsNumberOf (length f.records) k → record_of f k ≡ Some r → record_of g k ≡ Some (record_after f removed k r)
+  pub records : (k : ℕ) (r : Record) → IsNumberOf (length f.records) k
+      → record_of f k ≡ Some r → record_of g k ≡ Some (record_after f removed k r)
 
 -- a record that has a use of a removed record or of one that changes is rebuilt without the uses of removed ones
 abbrev pub is_touched : (ℕ → Bool) → (ℕ → Bool) → List FileUse → Bool
@@ -71,6 +74,10 @@ has_place places k = not (slice_index places (k - 1) == 0)
 abbrev pub is_gone : File → List ℕ → List ℕ → ℕ → Bool
 is_gone f before after k = is_supported (head_of f k).kind && (has_place before k && not (has_place after k))
 
+-- their numbers
+abbrev pub numbers_gone : File → List ℕ → List ℕ → List ℕ
+numbers_gone f before after = passing (is_gone f before after) (length f.records)
+
 -- the records of a supported kind that changed and have a place after
 abbrev pub is_modified : File → List Bool → List ℕ → ℕ → Bool
 is_modified f changed after k = is_supported (head_of f k).kind && (mark_of changed k && has_place after k)
@@ -82,10 +89,12 @@ pair_of numbers places k = (k, new_number numbers places k)
 -- a mark for each record, set where its tree changes
 pub record AreChanges (f : File) (removed : ℕ → Bool) (changed : List Bool) : Type 0 where
   pub size : length changed ≡ length f.records
-  pub each : (k : ℕ) → IsNumberOf (length f.records) k → mark_of changed k ≡ not (tree_eq (tree_after f removed k) (tree_of_record f k))
+  pub each : (k : ℕ) → IsNumberOf (length f.records) k
+      → mark_of changed k ≡ not (tree_eq (tree_after f removed k) (tree_of_record f k))
 
 -- what is written where the root isn't removed, given the places of the records before
-pub record RootStays (f : File) (removed : ℕ → Bool) (before text origins : List ℕ) (pairs : List (ℕ × ℕ)) (gone : List ℕ) : Type 0 where
+pub record RootStays (f : File) (removed : ℕ → Bool)
+    (before text origins : List ℕ) (pairs : List (ℕ × ℕ)) (gone : List ℕ) : Type 0 where
   pub after : File
   pub is_after : IsFileAfter f removed after
   pub changed : List Bool
@@ -97,7 +106,11 @@ pub record RootStays (f : File) (removed : ℕ → Bool) (before text origins : 
   pub text_is : text ≡ text_of after (expansion_of after)
   pub origins_are : origins ≡ reverse numbers
   pub pairs_are : pairs ≡ map (pair_of numbers places) (passing (is_modified f changed places) (length f.records))
-  pub gone_are : gone ≡ passing (is_gone f before places) (length f.records)
+  pub gone_are : gone ≡ numbers_gone f before places
+
+-- a removal in which the root stays
+abbrev pub StaysIn : File → List Bool → List ℕ → Removal → Type 0
+StaysIn f marks before r = RootStays f (mark_of marks) before r.text.items r.origins r.modified r.removed
 
 -- the root that is made where the root is removed
 abbrev pub made_root : Use
@@ -110,4 +123,4 @@ pub record RootGoes (f : File) (before text origins : List ℕ) (pairs : List (�
   pub pairs_are : pairs ≡ []
   pub places : List ℕ
   pub none : (k : ℕ) → IsNumberOf (length f.records) k → has_place places k ≡ false
-  pub gone_are : gone ≡ passing (is_gone f before places) (length f.records)
+  pub gone_are : gone ≡ numbers_gone f before places

@@ -1,5 +1,7 @@
--- A step that removes shapes by their records' numbers: its requests, the root that it makes, and its history in numbers.
-use Rattle.std.specs.Prelude.{◌≡◌, ℕ, ◌-◌, ◌<◌, None, List, [], ◌∷◌, map, length, reverse, slice_get, unwrap_or, Contains}
+-- A step that removes shapes by their records' numbers: its requests, the root that it makes, and its history in
+-- numbers.
+use Rattle.std.specs.Prelude.{◌≡◌, ℕ, ◌-◌, ◌<◌, None, List, [], ◌∷◌, map}
+use Rattle.std.specs.Prelude.{length, reverse, slice_get, unwrap_or, Contains}
 use Rattle.orientation.specs.declared.kind.Kind.{Kind}
 use Rattle.orientation.specs.Rules.{usual}
 use Rattle.expansion_laws.specs.Trees.{Tree, Use, origin, tree_of}
@@ -12,6 +14,7 @@ use Rattle.step_history.specs.History.{History, IsSupported, modified, step_hist
 use Rattle.expansion_laws.specs.Measures.{OccursIn}
 use Rattle.brep_file.specs.declared.file.File.{File}
 use Rattle.brep_file.specs.PlainRecords.{tree_of_record, expansion_of}
+use Rattle.brep_run.specs.declared.removal.Removal.{Removal}
 use Rattle.brep_run.specs.Dress.{head_of}
 use Rattle.brep_run.specs.Copies.{CanBeWritten}
 use Rattle.brep_run.specs.WrittenFile.{text_of}
@@ -57,7 +60,8 @@ AreInRange f root p = IsNumberOf (length f.records) p.0 × IsNumberOf (length (f
 pub record ArePairsOf (f : File) (root : Use) (R : Tree → Tree → Type 0) (pairs : List (ℕ × ℕ)) : Type 0 where
   pub in_range : (p : ℕ × ℕ) → Contains pairs p → AreInRange f root p
   pub each : (p : ℕ × ℕ) → Contains pairs p → R (tree_of_record f p.0) (tree_written root p.1)
-  pub all : (t s : Tree) → R t s → (p : ℕ × ℕ) × Contains pairs p × (tree_of_record f p.0 ≡ t) × (tree_written root p.1 ≡ s)
+  pub all : (t s : Tree) → R t s
+      → (p : ℕ × ℕ) × Contains pairs p × (tree_of_record f p.0 ≡ t) × (tree_written root p.1 ≡ s)
 
 -- these numbers of records are those of the trees of which a fact holds
 pub record AreNumbersOf (f : File) (P : Tree → Type 0) (numbers : List ℕ) : Type 0 where
@@ -75,9 +79,10 @@ Ascends [] = Unit {0}
 Ascends (x ∷ []) = Unit {0}
 Ascends (x ∷ y ∷ ys) = (x < y) × Ascends (y ∷ ys)
 
--- What is made of a file after removals: the root, its text and the origins of its numbers, and the history in numbers, each
--- list in ascending order. Nothing is generated.
-pub record RemovalDone (f : File) (numbers : List ℕ) (root : Use) (text origins : List ℕ) (pairs : List (ℕ × ℕ)) (gone : List ℕ) : Type 0 where
+-- What is made of a file after removals: the root, its text and the origins of its numbers, and the history in numbers,
+-- each list in ascending order. Nothing is generated.
+pub record RemovalDone (f : File) (numbers : List ℕ) (root : Use)
+    (text origins : List ℕ) (pairs : List (ℕ × ℕ)) (gone : List ℕ) : Type 0 where
   pub root_after : IsRootAfter f numbers root
   pub writable : CanBeWritten f root
   pub written : text ≡ text_of f root
@@ -88,3 +93,7 @@ pub record RemovalDone (f : File) (numbers : List ℕ) (root : Use) (text origin
   -- each record is told once
   pub pairs_ascend : Ascends (map (λ p. p.0) pairs)
   pub gone_ascend : Ascends gone
+
+-- what is made of the file, over some root, where the shapes with these numbers are removed
+abbrev pub IsRemovalOf : File → List ℕ → Removal → Type 0
+IsRemovalOf f numbers r = (root : Use) × RemovalDone f numbers root r.text.items r.origins r.modified r.removed

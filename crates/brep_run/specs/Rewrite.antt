@@ -1,7 +1,7 @@
 -- What a rewriting writes, what stands after it, whole or stopped, and why it is refused.
 use Rattle.std.specs.Prelude.{◌≡◌, ◌⊎◌, ℕ, ◌+◌, ◌<◌, ◌≤◌, IsTrue, List, length, Some}
 use Rattle.brep_desk.specs.Shown.{Shown, Tells}
-use Rattle.brep_desk.specs.Strays.{IsHeldIfTold}
+use Rattle.brep_desk.specs.Strays.{IsHeldIfTold, KeepsStrays}
 use Rattle.brep_desk.specs.Transfers.{IsLonger}
 use Rattle.history_text.specs.declared.file.HistoryFile.{HistoryFile}
 use Rattle.history_text.specs.HistoryText as history_text
@@ -16,7 +16,7 @@ use Rattle.brep_run.specs.declared.outcome.ScriptFault.{ScriptFault}
 use Rattle.brep_file.specs.Reads.{Reads}
 use Rattle.brep_run.specs.WrittenFile.{text_of}
 use Rattle.brep_run.specs.Copies.{IsTextFor}
-use Rattle.brep_run.specs.Copy.{Holds, OutWritten, PrefixWritten, most_bytes}
+use Rattle.brep_run.specs.Copy.{Holds, OutWritten, PrefixWritten, FirstStopped, most_bytes}
 use Rattle.brep_run.specs.Removal.{IsRootAfter, history_after, origins_written, ArePairsOf, AreNumbersOf}
 use Rattle.brep_run.specs.Script.{ScriptGiven, IsRefusedAt, script_given, removals, unbuilt}
 
@@ -58,12 +58,17 @@ pub record IsAccepted (old : Shown) (source script : List ℕ) (f : File) (numbe
 
 -- the root that the removals of an accepted script make of the file that is held
 abbrev pub IsRewrittenRoot : Shown → List ℕ → List ℕ → File → Use → Type 0
-IsRewrittenRoot old source script f root = (numbers : List ℕ) × IsAccepted old source script f numbers × IsRootAfter f numbers root
+IsRewrittenRoot old source script f root =
+    (numbers : List ℕ) × IsAccepted old source script f numbers × IsRootAfter f numbers root
 
 -- Where that is told, the source is held; and where it holds a file that is read, the script is held too.
 pub record InputsAreHeld (t : Tells) (old : Shown) (source script : List ℕ) : Type 0 where
   pub source_held : IsHeldIfTold t old source
   pub script_held : (f : File) → HoldsFile old source f → IsHeldIfTold t old script
+
+-- no stray call was made, where what is read is held
+abbrev pub NoStrayOnInputs : Tells → Shown → Shown → List ℕ → List ℕ → Type 0
+NoStrayOnInputs t old new source script = InputsAreHeld t old source script → KeepsStrays t old new
 
 -- ---- what is written
 
@@ -75,8 +80,8 @@ pub record IsHistoryOf (f : File) (numbers : List ℕ) (root : Use) (h : History
   pub removed_are : AreNumbersOf f (history_after f numbers root).removed h.removed
   pub ascends : history_text.IsHistory h
 
--- The texts of a file from which the shapes with these numbers are removed, and of the history of that step: the first is
--- that of the root after the removals.
+-- The texts of a file from which the shapes with these numbers are removed, and of the history of that step: the first
+-- is that of the root after the removals.
 pub record AreTextsOf (f : File) (numbers : List ℕ) (root : Use) (text told : List ℕ) : Type 0 where
   pub root_after : IsRootAfter f numbers root
   pub written : text ≡ text_of f root
@@ -86,38 +91,54 @@ pub record AreTextsOf (f : File) (numbers : List ℕ) (root : Use) (text told : 
 -- the texts that are due for what the names hold
 abbrev pub AreDue : Tells → Shown → List ℕ → List ℕ → List ℕ → List ℕ → Type 0
 AreDue t old source script text told =
-    IsTrue t.held → (f : File) × (numbers : List ℕ) × (root : Use) × IsAccepted old source script f numbers × AreTextsOf f numbers root text told
+    IsTrue t.held → (f : File) × (numbers : List ℕ) × (root : Use)
+    × IsAccepted old source script f numbers × AreTextsOf f numbers root text told
 
 -- the one text and then the other stand whole under their names
 abbrev pub BothWritten : Tells → Shown → Shown → List ℕ → List ℕ → List ℕ → List ℕ → Type 0
-BothWritten t old new target text history told = (between : Shown) × OutWritten t old between target text × OutWritten t between new history told
+BothWritten t old new target text history told =
+    (between : Shown) × OutWritten t old between target text × OutWritten t between new history told
 
 abbrev pub IsRewritten : Tells → Shown → Shown → List ℕ → List ℕ → List ℕ → List ℕ → Type 0
 IsRewritten t old new source script target history =
-    (text : List ℕ) × (told : List ℕ) × AreDue t old source script text told × BothWritten t old new target text history told
+    (text : List ℕ) × (told : List ℕ) × AreDue t old source script text told
+    × BothWritten t old new target text history told
 
 -- ---- a fault of writing
 
 -- the first bytes of a text stand under the name, or what stood there before; their count is told up to the last u64
 abbrev pub IsCountedPrefix : Tells → Shown → Shown → List ℕ → List ℕ → ℕ → Type 0
-IsCountedPrefix t old new name text taken = (count : ℕ) × (taken ≡ counted count) × PrefixWritten t old new name text count
+IsCountedPrefix t old new name text taken =
+    (count : ℕ) × (taken ≡ counted count) × PrefixWritten t old new name text count
+
+-- the text of the history stands whole under the name
+abbrev pub HistoryWritten : Tells → Shown → Shown → List ℕ → HistoryFile → Type 0
+HistoryWritten t old new name h = OutWritten t old new name (history_text.text_of h)
+
+-- the writing of the history, which is the second output, was stopped
+abbrev pub HistoryStopped : Tells → Shown → Shown → List ℕ → HistoryFile → ℕ → ℕ → Type 0
+HistoryStopped t old new name h file taken =
+    (file ≡ 2) × IsCountedPrefix t old new name (history_text.text_of h) taken
 
 -- at the first output, or at the second: then the first is whole
 abbrev pub IsOneStopped : Tells → Shown → Shown → List ℕ → List ℕ → List ℕ → List ℕ → ℕ → ℕ → Type 0
 IsOneStopped t old new target text history told file taken =
-    ((file ≡ 1) × PrefixWritten t old new target text taken)
-    ⊎ ((file ≡ 2) × ((between : Shown) × OutWritten t old between target text × IsCountedPrefix t between new history told taken))
+    FirstStopped t old new target text file taken
+    ⊎ ((file ≡ 2)
+    × ((between : Shown) × OutWritten t old between target text × IsCountedPrefix t between new history told taken))
 
 abbrev pub IsRewriteStopped : Tells → Shown → Shown → List ℕ → List ℕ → List ℕ → List ℕ → ℕ → ℕ → Type 0
 IsRewriteStopped t old new source script target history file taken =
-    (text : List ℕ) × (told : List ℕ) × AreDue t old source script text told × IsOneStopped t old new target text history told file taken
+    (text : List ℕ) × (told : List ℕ) × AreDue t old source script text told
+    × IsOneStopped t old new target text history told file taken
 
 -- ---- refusals, where it is told what the names hold
 
 -- no line of the script is faulty, and a command does something else than remove a shape
 abbrev pub IsRewriteUnbuilt : Tells → Shown → List ℕ → List ℕ → Type 0
 IsRewriteUnbuilt t old source script = IsTrue t.held →
-    (f : File) × (lines : List ℕ) × HoldsFile old source f × HoldsScript old script lines × (given_for f lines ≡ unbuilt)
+    (f : File) × (lines : List ℕ) × HoldsFile old source f × HoldsScript old script lines
+    × (given_for f lines ≡ unbuilt)
 
 -- a line of the script is faulty, and it is the first
 abbrev pub IsRefusedLine : Tells → Shown → List ℕ → List ℕ → ScriptFault → Type 0
@@ -136,6 +157,7 @@ pub record HasMoreLines (old : Shown) (script : List ℕ) : Type 0 where
 abbrev pub IsRewriteLimit : Tells → Shown → List ℕ → List ℕ → LimitKind → ℕ → Type 0
 IsRewriteLimit t old source script FileBytes count = (count ≡ most_bytes + 1) × IsLonger t old source most_bytes
 IsRewriteLimit t old source script ScriptBytes count =
-    (count ≡ most_script_bytes + 1) × IsLonger t old script most_script_bytes × (IsTrue t.held → (f : File) × HoldsFile old source f)
+    (count ≡ most_script_bytes + 1) × IsLonger t old script most_script_bytes
+    × (IsTrue t.held → (f : File) × HoldsFile old source f)
 IsRewriteLimit t old source script ScriptLines count =
     (count ≡ most_script_lines + 1) × (IsTrue t.held → (f : File) × HoldsFile old source f × HasMoreLines old script)

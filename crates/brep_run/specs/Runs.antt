@@ -1,20 +1,19 @@
 -- What is due of each command: what stands when it is done or was stopped, and when each other answer comes.
-use Rattle.std.specs.Prelude.{◌≡◌, ℕ, ◌+◌, IsTrue, List, Some}
+use Rattle.std.specs.Prelude.{◌≡◌, ℕ, IsTrue, List, Some}
 use Rattle.brep_desk.specs.Shown.{Shown, Tells}
-use Rattle.brep_desk.specs.Strays.{IsHeldIfTold, KeepsStrays}
-use Rattle.brep_desk.specs.Transfers.{IsLonger}
+use Rattle.brep_desk.specs.Strays.{KeepsStrays, NoStrayOnHeld}
 use Rattle.brep_tokens.specs.declared.fault.ReadFault.{ReadFault}
 use Rattle.expansion_laws.specs.Trees.{Use}
 use Rattle.brep_file.specs.declared.file.File.{File}
 use Rattle.brep_file.specs.PlainRecords.{expansion_of}
 use Rattle.brep_file.specs.Reads.{Spells}
 use Rattle.brep_run.specs.declared.outcome.LimitKind.{LimitKind}
-use Rattle.brep_run.specs.declared.outcome.LimitKind.TheVariants.{FileBytes}
 use Rattle.brep_run.specs.declared.outcome.ScriptFault.{ScriptFault}
 use Rattle.brep_run.specs.CommandLine.{CommandLine, copies, rewrites, later, wrong, command_line_of}
 use Rattle.brep_run.specs.Copies.{IsTextFor, SharesEqualTrees}
-use Rattle.brep_run.specs.Copy.{HoldsFault, IsDue, OutWritten, PrefixWritten, most_bytes}
-use Rattle.brep_run.specs.Rewrite.{HoldsFile, InputsAreHeld, IsRewritten, IsRewrittenRoot, IsRewriteStopped, IsRewriteUnbuilt, IsRefusedLine, IsRewriteLimit}
+use Rattle.brep_run.specs.Copy.{HoldsFault, IsCopied, IsCopyStopped, IsFileLimit}
+use Rattle.brep_run.specs.Rewrite.{HoldsFile, NoStrayOnInputs, IsRewritten, IsRewrittenRoot, IsRewriteStopped}
+use Rattle.brep_run.specs.Rewrite.{IsRewriteUnbuilt, IsRefusedLine, IsRewriteLimit}
 
 pub record Due : Type 1 where
   -- the texts due stand whole under the names that are written
@@ -72,15 +71,15 @@ of_no_command t old new = record {
 
 abbrev pub of_copy : Tells → Shown → Shown → List ℕ → List ℕ → Due
 of_copy t old new source target = record {
-  finished = (text : List ℕ) × IsDue t old source text × OutWritten t old new target text;
+  finished = IsCopied t old new source target;
   expands = WrittenExpands t new target (IsCopiedRoot old source);
   shares = WrittenShares t new target (IsCopiedRoot old source);
-  stopped = λ file taken. (file ≡ 1) × ((text : List ℕ) × IsDue t old source text × PrefixWritten t old new target text taken);
+  stopped = IsCopyStopped t old new source target;
   file = λ fault. IsTrue t.held → HoldsFault old source fault;
   script = λ fault. ⊥;
-  limit = λ which count. (which ≡ FileBytes) × (count ≡ most_bytes + 1) × IsLonger t old source most_bytes;
+  limit = IsFileLimit t old source;
   not_built = ⊥;
-  no_strays = IsHeldIfTold t old source → KeepsStrays t old new;
+  no_strays = NoStrayOnHeld t old new source;
 }
 
 abbrev pub of_rewrite : Tells → Shown → Shown → List ℕ → List ℕ → List ℕ → List ℕ → Due
@@ -88,12 +87,12 @@ of_rewrite t old new source script target history = record {
   finished = IsRewritten t old new source script target history;
   expands = WrittenExpands t new target (IsRewrittenRoot old source script);
   shares = WrittenShares t new target (IsRewrittenRoot old source script);
-  stopped = λ file taken. IsRewriteStopped t old new source script target history file taken;
+  stopped = IsRewriteStopped t old new source script target history;
   file = λ fault. IsTrue t.held → HoldsFault old source fault;
-  script = λ fault. IsRefusedLine t old source script fault;
-  limit = λ which count. IsRewriteLimit t old source script which count;
+  script = IsRefusedLine t old source script;
+  limit = IsRewriteLimit t old source script;
   not_built = IsRewriteUnbuilt t old source script;
-  no_strays = InputsAreHeld t old source script → KeepsStrays t old new;
+  no_strays = NoStrayOnInputs t old new source script;
 }
 
 abbrev pub due_of : Tells → Shown → Shown → CommandLine → Due

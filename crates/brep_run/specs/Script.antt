@@ -33,7 +33,8 @@ with_line line (Err f) rest = faulty_line line f
 
 abbrev pub lines_read : ℕ → ℕ → ℕ → List (List ℕ) → ScriptRead
 lines_read shapes locations line [] = commands []
-lines_read shapes locations line (l ∷ ls) = with_line line (command_of_line shapes locations l) (lines_read shapes locations (line + 1) ls)
+lines_read shapes locations line (l ∷ ls) =
+    with_line line (command_of_line shapes locations l) (lines_read shapes locations (line + 1) ls)
 
 -- what the bytes of a script say, over so many records and locations of a file
 unfoldable pub script_read : ℕ → ℕ → List ℕ → ScriptRead
@@ -90,18 +91,37 @@ script_given shapes locations bytes = given_by (script_read shapes locations byt
 -- the code and the two numbers that tell a fault of a line
 abbrev pub IsTold : ℕ → ℕ → LineFault → ScriptFault → Type 0
 IsTold shapes locations Syntax told = (told.code ≡ codes.Syntax) × (told.first ≡ 0) × (told.second ≡ 0)
-IsTold shapes locations (NoSuchShape n) told = (told.code ≡ codes.NoSuchShape) × (told.first ≡ n) × (told.second ≡ shapes)
-IsTold shapes locations (NoSuchLocation n) told = (told.code ≡ codes.NoSuchLocation) × (told.first ≡ n) × (told.second ≡ locations)
+IsTold shapes locations (NoSuchShape n) told =
+    (told.code ≡ codes.NoSuchShape) × (told.first ≡ n) × (told.second ≡ shapes)
+IsTold shapes locations (NoSuchLocation n) told =
+    (told.code ≡ codes.NoSuchLocation) × (told.first ≡ n) × (told.second ≡ locations)
 IsTold shapes locations NoMemory told = ⊥
 
 -- the script is refused at this line, for its fault
 abbrev pub IsRefusedAt : ℕ → ℕ → ScriptGiven → ScriptFault → Type 0
-IsRefusedAt shapes locations given told = (f : LineFault) × (given ≡ faulty told.line f) × IsTold shapes locations f told
+IsRefusedAt shapes locations given told =
+    (f : LineFault) × (given ≡ faulty told.line f) × IsTold shapes locations f told
 
 -- ---- what the program's own values stand for
+
+-- what a script says: these commands, then the line with a number, and then the rest
+abbrev pub said_with : ℕ → ℕ → List Command → ℕ → List ℕ → ScriptRead → ScriptRead
+said_with shapes locations before number line rest =
+    after_commands before (with_line number (command_of_line shapes locations line) rest)
+
+-- the line turns the commands before it into these
+abbrev pub TakesLine : ℕ → ℕ → List Command → List Command → ℕ → List ℕ → Type 0
+TakesLine shapes locations before after number line =
+    (rest : ScriptRead) → said_with shapes locations before number line rest ≡ after_commands after rest
 
 -- why a script was refused, unless memory ran out
 abbrev pub StopGiven : ℕ → ℕ → ScriptStop → ScriptGiven → Type 0
 StopGiven shapes locations (stops.Refused told) given = IsRefusedAt shapes locations given told
 StopGiven shapes locations stops.NotBuilt given = given ≡ unbuilt
 StopGiven shapes locations stops.NoMemory given = Unit {0}
+
+-- the script is refused at the line with this number, whatever comes after it
+abbrev pub StopsAtLine : ℕ → ℕ → List Command → ℕ → List ℕ → ScriptStop → Type 0
+StopsAtLine shapes locations before number line stop =
+    (rest : ScriptRead) → StopGiven shapes locations stop
+    (given_by (said_with shapes locations before number line rest))

@@ -14,7 +14,9 @@ use Rattle.brep_file.specs.declared.uses.FileUse.{FileUse}
 use Rattle.brep_file.specs.declared.records.Record.{Record}
 use Rattle.brep_file.specs.declared.file.File.{File}
 use Rattle.brep_run.specs.Dress.{head_for}
-use Rattle.brep_run.specs.Layout.{layout}
+use Rattle.brep_tokens.specs.Written.{lines_text}
+use Rattle.brep_file.specs.PlainRecords.{expansion_of}
+use Rattle.brep_run.specs.Layout.{layout, shape_lines}
 
 -- ---- locations
 
@@ -30,7 +32,8 @@ words_of_tree f x = words_of_data f (head_for f x) ++ map (λ u. u.word) (uses x
 abbrev pub words_under : File → Use → List (List Pair)
 words_under f root = flat_map (words_of_tree f) (flat root.tree) ++ root.word ∷ []
 
--- the file's datums, and then each word once that occurs and is neither the identity nor one datum, in the order in which they first occur
+-- the file's datums, and then each word once that occurs and is neither the identity nor one datum, in the order in
+-- which they first occur
 abbrev pub locations_under : File → Use → List LocationEntry
 locations_under f root = written_section (datums_of f.locations) (further_words (words_under f root))
 
@@ -48,15 +51,23 @@ abbrev pub written_head : File → (List Pair → ℕ) → Head → Head
 written_head f location h = renumbered_head (λ n. location (word_of_place f.locations n)) h
 
 abbrev pub written_record : File → (List Pair → ℕ) → List Tree → Tree → Record
-written_record f location trees x = record { head = written_head f location (head_for f x); uses = map (written_use location trees) (uses x) }
+written_record f location trees x = record {
+  head = written_head f location (head_for f x);
+  uses = map (written_use location trees) (uses x);
+}
 
--- One record for each distinct tree below and at the root, in the order of first completion; the tables stay as they are.
+-- One record for each distinct tree below and at the root, in the order of first completion; the tables stay as they
+-- are.
 abbrev pub written_file : File → Use → File
 written_file f root = record f {
   locations = locations_under f root;
   records = map (written_record f (location_under f root) (flat root.tree)) (flat root.tree);
   root = written_use (location_under f root) (flat root.tree) root;
 }
+
+-- the text of the records and of the root use, where a file's expansion is written
+abbrev pub written_records : File → List ℕ
+written_records f = lines_text (shape_lines (written_file f (expansion_of f)))
 
 -- the text that is written for a root over a file's records
 abbrev pub text_of : File → Use → List ℕ

@@ -1,6 +1,7 @@
 //! The command line: which command the words spell, and the names that it reads and writes.
 ghost use Rattle.std.specs.Prelude.{◌≡◌};
-ghost use Rattle.brep_run.specs.CommandLine.{IsCommandLine, command_line_of, copy_of_names, is_later, may_copy, may_rewrite, rewrite_of_names};
+ghost use Rattle.brep_run.specs.CommandLine.{IsCommandLine, command_line_of, copy_of_names};
+ghost use Rattle.brep_run.specs.CommandLine.{is_later, may_copy, may_rewrite, rewrite_of_names};
 
 use brep_desk::NameText;
 

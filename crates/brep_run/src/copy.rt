@@ -1,13 +1,15 @@
 //! `copy`: reads a file, and writes it again by the written layout.
-ghost use Rattle.std.specs.Prelude.{◌≡◌, ◌≤◌, ◌+◌, ℕ, List, IsTrue};
-ghost use Rattle.brep_desk.specs.Strays.{KeepsStrays, IsHeldIfTold};
-ghost use Rattle.brep_desk.specs.Transfers.{NothingWritten, IsLonger};
-ghost use Rattle.brep_run.specs.Outcomes.{OnDone, OnUsage, OnNotBuilt, OnWriting, IfFile, IfLimit, IfScript, IfStopped, IfDeskFault, UnlessWriting};
+ghost use Rattle.std.specs.Prelude.{◌≤◌, IsTrue};
+ghost use Rattle.brep_desk.specs.Strays.{KeepsStrays, NoStrayOnHeld};
+ghost use Rattle.brep_desk.specs.Transfers.{NothingWritten};
+ghost use Rattle.brep_run.specs.Outcomes.{OnDone, OnUsage, OnNotBuilt, OnWriting, IfFile, IfLimit};
+ghost use Rattle.brep_run.specs.Outcomes.{IfScript, IfStopped, IfDeskFault, UnlessWriting};
 ghost use Rattle.brep_desk.specs.WritingCalls.{KeepsWritingCalls, RoseWritingCalls};
-ghost use Rattle.brep_run.specs.Copy.{Counts, HoldsFault, OutWritten, PrefixWritten, IsDue, most_bytes};
+ghost use Rattle.brep_run.specs.Copy.{Counts, HoldsFault, OutWritten, FirstStopped};
+ghost use Rattle.brep_run.specs.Copy.{IsCopied, IsCopyStopped, IsFileLimit};
 
 use crate::input::read_input;
-use crate::outcome::{LimitKind, Outcome};
+use crate::outcome::Outcome;
 use crate::writer::copy_text;
 use brep_desk::{Desk, write_all};
 use std::alloc::Global;
@@ -16,7 +18,8 @@ use std::alloc::Global;
 pub(crate) fn write_out<D: Desk>(desk: &mut D, target: &str, text: &[u8]) -> Outcome
     ensures later { D.faults desk.old ≤ D.faults desk.new }
     ensures done { OnDone result (OutWritten D.tells (D.shows desk.old) (D.shows desk.new) target.now text.now) }
-    ensures stopped { IfStopped result (λ file taken. (file ≡ 1) × PrefixWritten D.tells (D.shows desk.old) (D.shows desk.new) target.now text.now taken) }
+    ensures stopped { IfStopped result (FirstStopped D.tells (D.shows desk.old) (D.shows desk.new)
+        target.now text.now) }
     ensures counts { IfDeskFault result (Counts (D.faults desk.old) (D.faults desk.new)) }
     ensures either { UnlessWriting result ⊥ }
     ensures strays { KeepsStrays D.tells (D.shows desk.old) (D.shows desk.new) }
@@ -58,10 +61,11 @@ pub(crate) fn write_out<D: Desk>(desk: &mut D, target: &str, text: &[u8]) -> Out
 
 /// Reads the one name and writes its copy under the other. The text is made whole before the writing begins.
 pub(crate) fn copy<D: Desk>(alloc: Global, desk: &mut D, source: &str, target: &str) -> Outcome
-    ensures done { OnDone result ((text : List ℕ) × IsDue D.tells (D.shows desk.old) source.now text × OutWritten D.tells (D.shows desk.old) (D.shows desk.new) target.now text) }
-    ensures stopped { IfStopped result (λ file taken. (file ≡ 1) × ((text : List ℕ) × IsDue D.tells (D.shows desk.old) source.now text × PrefixWritten D.tells (D.shows desk.old) (D.shows desk.new) target.now text taken)) }
+    ensures done { OnDone result (IsCopied D.tells (D.shows desk.old) (D.shows desk.new) source.now target.now) }
+    ensures stopped { IfStopped result (IsCopyStopped D.tells (D.shows desk.old) (D.shows desk.new)
+        source.now target.now) }
     ensures counts { IfDeskFault result (Counts (D.faults desk.old) (D.faults desk.new)) }
-    ensures limit { IfLimit result (λ which count. (which ≡ LimitKind.FileBytes) × (count ≡ most_bytes + 1) × IsLonger D.tells (D.shows desk.old) source.now most_bytes) }
+    ensures limit { IfLimit result (IsFileLimit D.tells (D.shows desk.old) source.now) }
     ensures file { IfFile result (λ fault. IsTrue D.tells.held → HoldsFault (D.shows desk.old) source.now fault) }
     ensures not_built { OnNotBuilt result ⊥ }
     ensures script { IfScript result (λ fault. ⊥) }
@@ -69,7 +73,7 @@ pub(crate) fn copy<D: Desk>(alloc: Global, desk: &mut D, source: &str, target: &
     ensures quiet { UnlessWriting result (NothingWritten D.tells (D.shows desk.old) (D.shows desk.new)) }
     ensures calls_kept { UnlessWriting result (KeepsWritingCalls D.tells (D.shows desk.old) (D.shows desk.new)) }
     ensures calls_rose { OnWriting result (RoseWritingCalls D.tells (D.shows desk.old) (D.shows desk.new)) }
-    ensures strays { IsHeldIfTold D.tells (D.shows desk.old) source.now → KeepsStrays D.tells (D.shows desk.old) (D.shows desk.new) }
+    ensures strays { NoStrayOnHeld D.tells (D.shows desk.old) (D.shows desk.new) source.now }
 {
     let input = match read_input(alloc, desk, source) {
         Ok(input) => input,

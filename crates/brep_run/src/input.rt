@@ -1,6 +1,6 @@
 //! Reads the inputs of a run: a file, and the script that goes with it.
 ghost use Rattle.std.specs.Prelude.{◌≡◌, ◌≤◌, All, IfErr, IfOk, IsTrue, OnOk, Some, length};
-ghost use Rattle.brep_desk.specs.Strays.{KeepsStrays, IsHeldIfTold};
+ghost use Rattle.brep_desk.specs.Strays.{NoStrayOnHeld};
 ghost use Rattle.brep_desk.specs.Transfers.{NothingWritten, NoMoreOpen};
 ghost use Rattle.brep_desk.specs.WritingCalls.{KeepsWritingCalls};
 ghost use Rattle.brep_file.specs.Sound.{IsWithinLimits, IsSound};
@@ -47,9 +47,10 @@ pub(crate) fn read_input<D: Desk>(
     ensures read { IfOk result (λ input. IsTrue D.tells.held → HoldsFile (D.shows desk.old) source.now input.file) }
     ensures sound { IfOk result (λ input. IsSound input.file) }
     ensures small { IfOk result (λ input. IsWithinLimits input.file) }
-    ensures stop { IfErr result (λ stop. IsInputStop D.tells (D.shows desk.old) source.now (D.faults desk.old) (D.faults desk.new) stop) }
+    ensures stop { IfErr result (IsInputStop D.tells (D.shows desk.old) source.now
+        (D.faults desk.old) (D.faults desk.new)) }
     ensures closes { OnOk result (IsTrue D.tells.opened → NoMoreOpen (D.shows desk.old) (D.shows desk.new)) }
-    ensures strays { IsHeldIfTold D.tells (D.shows desk.old) source.now → KeepsStrays D.tells (D.shows desk.old) (D.shows desk.new) }
+    ensures strays { NoStrayOnHeld D.tells (D.shows desk.old) (D.shows desk.new) source.now }
 {
     reading_is_exact();
     let before = desk.faults();
@@ -88,9 +89,10 @@ pub(crate) fn read_script<D: Desk>(
     ensures writing_calls { KeepsWritingCalls D.tells (D.shows desk.old) (D.shows desk.new) }
     ensures read { IfOk result (λ lines. IsTrue D.tells.held → HoldsScript (D.shows desk.old) script.now lines.items) }
     ensures few { IfOk result (λ lines. length (script_lines lines.items) ≤ most_script_lines) }
-    ensures stop { IfErr result (λ stop. IsScriptStop D.tells (D.shows desk.old) script.now (D.faults desk.old) (D.faults desk.new) stop) }
+    ensures stop { IfErr result (IsScriptStop D.tells (D.shows desk.old) script.now
+        (D.faults desk.old) (D.faults desk.new)) }
     ensures closes { OnOk result (IsTrue D.tells.opened → NoMoreOpen (D.shows desk.old) (D.shows desk.new)) }
-    ensures strays { IsHeldIfTold D.tells (D.shows desk.old) script.now → KeepsStrays D.tells (D.shows desk.old) (D.shows desk.new) }
+    ensures strays { NoStrayOnHeld D.tells (D.shows desk.old) (D.shows desk.new) script.now }
 {
     let before = desk.faults();
     let lines = match read_all(alloc, desk, script, SCRIPT_BYTES) {

@@ -7,7 +7,8 @@ use brep_tokens::{ReadCode, ReadFault};
 use std::alloc::{AllocError, Global};
 use std::marker::Model;
 
-/// A quantity with a limit: the number of bytes of the file that is read, and those of bytes and of lines of its script.
+/// A quantity with a limit: the number of bytes of the file that is read, and those of bytes and of lines of its
+/// script.
 #[derive(Clone, Copy, Debug, PartialEq, Eq)]
 pub enum LimitKind {
     FileBytes,
@@ -15,8 +16,9 @@ pub enum LimitKind {
     ScriptLines,
 }
 
-/// Why a line of a script is refused. At `Syntax`, where it spells no command, `first` and `second` are 0. At `NoSuchShape`
-/// and `NoSuchLocation`, `first` is the number that it names, and `second` how many records or locations the file has.
+/// Why a line of a script is refused. At `Syntax`, where it spells no command, `first` and `second` are 0. At
+/// `NoSuchShape` and `NoSuchLocation`, `first` is the number that it names, and `second` how many records or locations
+/// the file has.
 #[derive(Clone, Copy, Debug, PartialEq, Eq)]
 pub enum ScriptCode {
     Syntax,
@@ -33,9 +35,10 @@ pub struct ScriptFault {
     pub second: u64,
 }
 
-/// What a run answers. `File` tells the first token of the file that isn't accepted. The counts of a fault of the desk are those of the desk: at the last look before the calls that failed, and at
-/// the end. In `WriteDesk`, `file` is 1 for the first output and 2 for the history, and `taken` is how many bytes of it the
-/// desk took, or the last u64 where they are more.
+/// What a run answers. `File` tells the first token of the file that isn't accepted. The counts of a fault of the desk
+/// are those of the desk: at the last look before the calls that failed, and at the end. In `WriteDesk`, `file` is 1
+/// for the first output and 2 for the history, and `taken` is how many bytes of it the desk took, or the last u64 where
+/// they are more.
 #[derive(Clone, Copy, Debug, PartialEq, Eq)]
 pub enum Outcome {
     Done,

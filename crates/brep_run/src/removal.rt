@@ -1,11 +1,9 @@
 //! Removes shapes from a file: the text of what remains, and what the history of the removal says.
 ghost use Rattle.brep_run.specs.Completion.{ArePlaced, Completes, NumbersTell};
-ghost use Rattle.brep_run.specs.Remaining.{AreMarks, RootGoes, RootStays};
-ghost use Rattle.brep_file.specs.Marks.{mark_of};
-ghost use Rattle.brep_run.specs.Removal.{RemovalDone};
+ghost use Rattle.brep_run.specs.Remaining.{AreMarks, RootGoes, StaysIn};
+ghost use Rattle.brep_run.specs.Removal.{IsRemovalOf};
 ghost use Rattle.brep_file.specs.Sound.{IsSound};
 ghost use Rattle.expansion_laws.specs.Expansion.{IsNumberOf};
-ghost use Rattle.expansion_laws.specs.Trees.{Use};
 ghost use Rattle.std.specs.Prelude.{◌≡◌, All, IfOk, [], false, length, true};
 
 mod history;
@@ -64,7 +62,7 @@ fn root_stays(
     requires tell { NumbersTell file }
     requires placed { ArePlaced (length file.records) before.now.numbers.items before.now.places.items }
     requires marks { length marks.now ≡ length file.records }
-    ensures { IfOk result (λ r. RootStays file (mark_of marks.now) before.now.places.items r.text.items r.origins r.modified r.removed) }
+    ensures { IfOk result (StaysIn file marks.now before.now.places.items) }
 {
     records_are_trees();
     equal_trees_tell();
@@ -88,7 +86,7 @@ pub(crate) fn remove_shapes(
 ) -> Result<Removal, AllocError>
     requires sound { IsSound file }
     requires numbers { All (IsNumberOf (length file.records)) numbers.now }
-    ensures { IfOk result (λ r. (root : Use) × RemovalDone file numbers.now root r.text.items r.origins r.modified r.removed) }
+    ensures { IfOk result (IsRemovalOf file numbers.now) }
 {
     records_are_trees();
     equal_trees_tell();

@@ -1,14 +1,18 @@
 //! `rewrite`: reads a file and a script, and writes the file after the script's removals and their history.
-ghost use Rattle.std.specs.Prelude.{◌≡◌, ◌≤◌, ◌<◌, ◌^◌, ◌+◌, ℕ, List, All, IfOk, IsTrue, length};
+ghost use Rattle.std.specs.Prelude.{All, IfOk, IsTrue, length};
 ghost use Rattle.brep_desk.specs.Strays.{KeepsStrays};
 ghost use Rattle.brep_desk.specs.Transfers.{NothingWritten};
 ghost use Rattle.expansion_laws.specs.Expansion.{IsNumberOf};
 ghost use Rattle.expansion_laws.specs.Trees.{Use};
 ghost use Rattle.history_text.specs.HistoryText.{text_of};
 ghost use Rattle.brep_desk.specs.WritingCalls.{KeepsWritingCalls, RoseWritingCalls};
-ghost use Rattle.brep_run.specs.Copy.{Counts, HoldsFault, OutWritten};
-ghost use Rattle.brep_run.specs.Outcomes.{OnDone, OnUsage, OnNotBuilt, OnWriting, IfFile, IfLimit, IfScript, IfStopped, IfDeskFault, UnlessWriting};
-ghost use Rattle.brep_run.specs.Rewrite.{AreTextsOf, BothWritten, InputsAreHeld, IsCountedPrefix, IsOneStopped, IsRefusedLine, IsRewriteLimit, IsRewriteStopped, IsRewriteUnbuilt, IsRewritten};
+ghost use Rattle.brep_run.specs.Copy.{Counts, HoldsFault};
+ghost use Rattle.brep_run.specs.Outcomes.{OnDone, OnUsage, OnNotBuilt, OnWriting, IfFile, IfLimit};
+ghost use Rattle.brep_run.specs.Outcomes.{IfScript, IfStopped, IfDeskFault, UnlessWriting};
+ghost use Rattle.brep_run.specs.Rewrite.{AreTextsOf, BothWritten, HistoryWritten};
+ghost use Rattle.brep_run.specs.Rewrite.{HistoryStopped, IsOneStopped, NoStrayOnInputs};
+ghost use Rattle.brep_run.specs.Rewrite.{IsRefusedLine, IsRewriteLimit, IsRewriteStopped};
+ghost use Rattle.brep_run.specs.Rewrite.{IsRewriteUnbuilt, IsRewritten};
 ghost use Rattle.brep_file.specs.Sound.{IsSound};
 
 use crate::copy::write_out;
@@ -29,8 +33,8 @@ struct Rewriting {
     history: HistoryFile,
 }
 
-/// The file without the records with these numbers, and the history of their removal. `room` is how many bytes of text are
-/// expected.
+/// The file without the records with these numbers, and the history of their removal. `room` is how many bytes of text
+/// are expected.
 fn rewriting_of(
     alloc: Global,
     file: File,
@@ -57,8 +61,9 @@ fn rewriting_of(
 
 /// Writes the history under the name, whole and ended, as the second output.
 fn write_history<D: Desk>(desk: &mut D, name: &str, history: &HistoryFile) -> Outcome
-    ensures done { OnDone result (OutWritten D.tells (D.shows desk.old) (D.shows desk.new) name.now (text_of history.now)) }
-    ensures stopped { IfStopped result (λ file taken. (file ≡ 2) × IsCountedPrefix D.tells (D.shows desk.old) (D.shows desk.new) name.now (text_of history.now) taken) }
+    ensures done { OnDone result (HistoryWritten D.tells (D.shows desk.old) (D.shows desk.new) name.now history.now) }
+    ensures stopped { IfStopped result (HistoryStopped D.tells (D.shows desk.old) (D.shows desk.new)
+        name.now history.now) }
     ensures counts { IfDeskFault result (Counts (D.faults desk.old) (D.faults desk.new)) }
     ensures either { UnlessWriting result ⊥ }
     ensures strays { KeepsStrays D.tells (D.shows desk.old) (D.shows desk.new) }
@@ -106,8 +111,10 @@ fn write_both<D: Desk>(
     name: &str,
     history: &HistoryFile,
 ) -> Outcome
-    ensures done { OnDone result (BothWritten D.tells (D.shows desk.old) (D.shows desk.new) target.now text.now name.now (text_of history.now)) }
-    ensures stopped { IfStopped result (λ file taken. IsOneStopped D.tells (D.shows desk.old) (D.shows desk.new) target.now text.now name.now (text_of history.now) file taken) }
+    ensures done { OnDone result (BothWritten D.tells (D.shows desk.old) (D.shows desk.new)
+        target.now text.now name.now (text_of history.now)) }
+    ensures stopped { IfStopped result (IsOneStopped D.tells (D.shows desk.old) (D.shows desk.new)
+        target.now text.now name.now (text_of history.now)) }
     ensures counts { IfDeskFault result (Counts (D.faults desk.old) (D.faults desk.new)) }
     ensures either { UnlessWriting result ⊥ }
     ensures strays { KeepsStrays D.tells (D.shows desk.old) (D.shows desk.new) }
@@ -119,8 +126,8 @@ fn write_both<D: Desk>(
     }
 }
 
-/// Reads the file and its script, and writes what remains under the one name and the history under the other. Both texts
-/// are made whole before the writing begins.
+/// Reads the file and its script, and writes what remains under the one name and the history under the other. Both
+/// texts are made whole before the writing begins.
 pub(crate) fn rewrite<D: Desk>(
     alloc: Global,
     desk: &mut D,
@@ -129,10 +136,12 @@ pub(crate) fn rewrite<D: Desk>(
     target: &str,
     history: &str,
 ) -> Outcome
-    ensures done { OnDone result (IsRewritten D.tells (D.shows desk.old) (D.shows desk.new) source.now script.now target.now history.now) }
-    ensures stopped { IfStopped result (λ file taken. IsRewriteStopped D.tells (D.shows desk.old) (D.shows desk.new) source.now script.now target.now history.now file taken) }
+    ensures done { OnDone result (IsRewritten D.tells (D.shows desk.old) (D.shows desk.new)
+        source.now script.now target.now history.now) }
+    ensures stopped { IfStopped result (IsRewriteStopped D.tells (D.shows desk.old) (D.shows desk.new)
+        source.now script.now target.now history.now) }
     ensures counts { IfDeskFault result (Counts (D.faults desk.old) (D.faults desk.new)) }
-    ensures limit { IfLimit result (λ which count. IsRewriteLimit D.tells (D.shows desk.old) source.now script.now which count) }
+    ensures limit { IfLimit result (IsRewriteLimit D.tells (D.shows desk.old) source.now script.now) }
     ensures file { IfFile result (λ fault. IsTrue D.tells.held → HoldsFault (D.shows desk.old) source.now fault) }
     ensures not_built { OnNotBuilt result (IsRewriteUnbuilt D.tells (D.shows desk.old) source.now script.now) }
     ensures script { IfScript result (λ fault. IsRefusedLine D.tells (D.shows desk.old) source.now script.now fault) }
@@ -140,7 +149,7 @@ pub(crate) fn rewrite<D: Desk>(
     ensures quiet { UnlessWriting result (NothingWritten D.tells (D.shows desk.old) (D.shows desk.new)) }
     ensures calls_kept { UnlessWriting result (KeepsWritingCalls D.tells (D.shows desk.old) (D.shows desk.new)) }
     ensures calls_rose { OnWriting result (RoseWritingCalls D.tells (D.shows desk.old) (D.shows desk.new)) }
-    ensures strays { InputsAreHeld D.tells (D.shows desk.old) source.now script.now → KeepsStrays D.tells (D.shows desk.old) (D.shows desk.new) }
+    ensures strays { NoStrayOnInputs D.tells (D.shows desk.old) (D.shows desk.new) source.now script.now }
 {
     let input = match read_input(alloc, desk, source) {
         Ok(input) => input,

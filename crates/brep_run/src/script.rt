@@ -1,8 +1,8 @@
 //! What a script says: the commands of its lines, and the removals among them.
 ghost use Rattle.expansion_laws.specs.Expansion.{IsNumberOf};
-ghost use Rattle.brep_run.specs.Script.{ScriptRead, StopGiven, after_commands, faulty, given_by, commands, removal_of, removals, removals_of, script_given, script_read, with_line};
+ghost use Rattle.brep_run.specs.Script.{StopGiven, StopsAtLine, TakesLine, faulty, commands, script_given, script_read};
+ghost use Rattle.brep_run.specs.Script.{removal_of, removals, removals_of};
 ghost use Rattle.script_text.specs.Lines.{script_lines};
-ghost use Rattle.script_text.specs.Meaning.{command_of_line};
 ghost use Rattle.std.specs.Prelude.{◌≡◌, ◌<◌, ◌^◌, All, IfErr, IfOk, MatchOption, None, OnOk, Some, length};
 
 use crate::outcome::{ScriptCode, ScriptFault};
@@ -10,8 +10,8 @@ use script_text::laws::commands_have_lines;
 use script_text::{Command, LineFault, Sel, lines_of, parse};
 use std::alloc::{AllocError, Global};
 
-/// Why a script isn't carried out: a line is faulty, a command does something else than remove a shape everywhere, or memory
-/// ran out.
+/// Why a script isn't carried out: a line is faulty, a command does something else than remove a shape everywhere, or
+/// memory ran out.
 #[derive(Clone, Copy)]
 pub(crate) enum ScriptStop {
     Refused(ScriptFault),
@@ -48,8 +48,8 @@ fn take_line(
     shapes: u32,
     locations: u32,
 ) -> Result<(), ScriptStop>
-    ensures ok { OnOk result ((rest : ScriptRead) → after_commands taken.old.items (with_line at (command_of_line shapes locations bytes.now) rest) ≡ after_commands taken.new.items rest) }
-    ensures err { IfErr result (λ e. (rest : ScriptRead) → StopGiven shapes locations e (given_by (after_commands taken.old.items (with_line at (command_of_line shapes locations bytes.now) rest)))) }
+    ensures ok { OnOk result (TakesLine shapes locations taken.old.items taken.new.items at bytes.now) }
+    ensures err { IfErr result (StopsAtLine shapes locations taken.old.items at bytes.now) }
 {
     match parse(alloc, bytes, shapes, locations) {
         Ok(None) => Ok(()),
@@ -77,10 +77,7 @@ fn commands_of(
     let mut at = 0u64;
     'lines: while let Some(bytes) = lines.next() {
         at += 1;
-        match take_line(alloc, &mut taken, at, bytes, shapes, locations) {
-            Ok(()) => {}
-            Err(stop) => return Err(stop),
-        }
+        take_line(alloc, &mut taken, at, bytes, shapes, locations)?;
     }
     Ok(taken)
 }
@@ -103,7 +100,8 @@ fn removal(command: &Command) -> Option<u32>
 
 /// The numbers of the shapes that the commands remove, if each removes one everywhere.
 fn removals_among(alloc: Global, commands: &[Command]) -> Result<Option<Vec<u32>>, AllocError>
-    ensures { IfOk result (λ r. MatchOption r (removals_of commands.now ≡ None) (λ numbers. removals_of commands.now ≡ Some numbers.items)) }
+    ensures { IfOk result (λ r. MatchOption r (removals_of commands.now ≡ None)
+        (λ numbers. removals_of commands.now ≡ Some numbers.items)) }
 {
     let mut numbers = Vec::new(alloc);
     'commands: for command in commands {

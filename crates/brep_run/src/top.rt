@@ -5,7 +5,8 @@ ghost use Rattle.brep_desk.specs.WritingCalls.{KeepsWritingCalls, RoseWritingCal
 ghost use Rattle.brep_run.specs.Answering.{Answers, answer_to};
 ghost use Rattle.brep_run.specs.CommandLine.{HasInput, command_line_of, later, wrong};
 ghost use Rattle.brep_run.specs.Copy.{Counts};
-ghost use Rattle.brep_run.specs.Outcomes.{OnDone, OnUsage, OnNotBuilt, OnReadDesk, OnWriting, IfFile, IfLimit, IfScript, IfStopped, IfDeskFault, UnlessWriting};
+ghost use Rattle.brep_run.specs.Outcomes.{OnDone, OnUsage, OnNotBuilt, OnReadDesk, OnWriting, IfFile};
+ghost use Rattle.brep_run.specs.Outcomes.{IfLimit, IfScript, IfStopped, IfDeskFault, UnlessWriting};
 ghost use Rattle.brep_run.specs.Runs.{due};
 
 use crate::command_line::{CommandLine, command_line};
@@ -19,9 +20,10 @@ use expansion_laws::laws::records_are_trees;
 use std::alloc::Global;
 use std::sync::ledger::Ledger;
 
-/// Does all that the program does, for the words after its name: `copy IN OUT` reads the file IN and writes it to OUT by
-/// the written layout; `rewrite IN SCRIPT OUT HIST` reads the file IN, removes the shapes that SCRIPT names, and writes
-/// what remains to OUT and the history of the removal to HIST. Names are names of the desk; `-` may be read and written.
+/// Does all that the program does, for the words after its name: `copy IN OUT` reads the file IN and writes it to OUT
+/// by the written layout; `rewrite IN SCRIPT OUT HIST` reads the file IN, removes the shapes that SCRIPT names, and
+/// writes what remains to OUT and the history of the removal to HIST. Names are names of the desk; `-` may be read and
+/// written.
 /// The outcomes have these statuses: `Done` 0, `Usage` 2, `File` 3, `Script` 4, `Limit` 6, `ReadDesk` 7, `WriteDesk` 8,
 /// `NoMemory` 9, `NotBuilt` 10.
 pub fn run<D: Desk, L: Ledger>(
@@ -30,15 +32,16 @@ pub fn run<D: Desk, L: Ledger>(
     desk: &mut D,
     steps: &mut Steps<L>,
 ) -> Outcome
-    // Done: the texts due stand whole under their names; OUT spells one file, which expands to the dressed root that is due; and
-    // in that file two occurrences go through one record exactly where their trees are equal.
+    // Done: the texts due stand whole under their names; OUT spells one file, which expands to the dressed root that is
+    // due; and in that file two occurrences go through one record exactly where their trees are equal.
     ensures done { OnDone result (due D.tells (D.shows desk.old) (D.shows desk.new) words.now).finished }
     ensures expands { OnDone result (due D.tells (D.shows desk.old) (D.shows desk.new) words.now).expands }
     ensures shares { OnDone result (due D.tells (D.shows desk.old) (D.shows desk.new) words.now).shares }
 
-    // The answer that is due for what the names hold: each refusal, Done or a fault of reading, unless a fault of the desk is
-    // counted or memory runs out.
-    ensures due { Answers result (answer_to D.tells (D.shows desk.old) words.now) (D.faults desk.old) (D.faults desk.new) }
+    // The answer that is due for what the names hold: each refusal, Done or a fault of reading, unless a fault of the
+    // desk is counted or memory runs out.
+    ensures due { Answers result (answer_to D.tells (D.shows desk.old) words.now)
+        (D.faults desk.old) (D.faults desk.new) }
     ensures usage_due { command_line_of words.now ≡ wrong → result ≡ Outcome.Usage }
     ensures not_built_due { command_line_of words.now ≡ later → result ≡ Outcome.NotBuilt }
 
@@ -58,7 +61,8 @@ pub fn run<D: Desk, L: Ledger>(
     ensures calls_kept { UnlessWriting result (KeepsWritingCalls D.tells (D.shows desk.old) (D.shows desk.new)) }
     ensures calls_rose { OnWriting result (RoseWritingCalls D.tells (D.shows desk.old) (D.shows desk.new)) }
     ensures untouched { (HasInput (command_line_of words.now) → ⊥) → desk.new ≡ desk.old }
-    // It makes no stray call, where what it reads is held: of SCRIPT this is asked only where IN holds a file that is read.
+    // It makes no stray call, where what it reads is held: of SCRIPT this is asked only where IN holds a file that is
+    // read.
     ensures strays { (due D.tells (D.shows desk.old) (D.shows desk.new) words.now).no_strays }
     ensures steps { steps.new ≡ steps.old }
 {

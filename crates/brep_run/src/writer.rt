@@ -2,13 +2,12 @@
 ghost use Rattle.brep_file.specs.declared.file.File.{File};
 ghost use Rattle.brep_file.specs.PlainRecords.{expansion_of};
 ghost use Rattle.brep_file.specs.Sound.{IsSound};
-ghost use Rattle.brep_run.specs.Completion.{ArePlaced, AreLocated, Completes, NumbersTell, lines_of_number, locations_of, locations_used};
-ghost use Rattle.brep_run.specs.Layout.{location_lines, shape_lines, table_lines};
+ghost use Rattle.brep_run.specs.Completion.{ArePlaced, AreLocated, Completes, NumbersTell};
+ghost use Rattle.brep_run.specs.Completion.{lines_of_numbers, locations_of, locations_used};
+ghost use Rattle.brep_run.specs.Layout.{text_before_records};
 ghost use Rattle.brep_run.specs.Remaining.{made_root};
-ghost use Rattle.brep_run.specs.WrittenFile.{text_of, written_file};
+ghost use Rattle.brep_run.specs.WrittenFile.{text_of, written_records};
 ghost use Rattle.brep_tokens.specs.Tokens.{version_line};
-ghost use Rattle.brep_tokens.specs.Written.{lines_text};
-ghost use Rattle.std.specs.List.{flat_map};
 ghost use Rattle.std.specs.Prelude.{◌≡◌, ◌⊎◌, ◌∷◌, ◌++◌, IfOk, OnOk, [], length};
 ghost use Rattle.written_locations.specs.Added.{IsNumbering, location_number};
 
@@ -52,7 +51,7 @@ fn begun_text(
     requires sound { IsSound file.now }
     requires numbering { IsNumbering locations.now }
     requires section { locations.now.section.now ≡ file.now.locations }
-    ensures { IfOk result (λ text. text.items ≡ ((version_line file.now.version ++ 10 ∷ []) ++ lines_text (location_lines (locations_of locations.now))) ++ lines_text (table_lines file.now)) }
+    ensures { IfOk result (λ text. text.items ≡ text_before_records file.now (locations_of locations.now)) }
 {
     let mut text = Vec::with_capacity(alloc, room)?;
     text.extend_from_slice(version_bytes(file.version))?;
@@ -72,7 +71,7 @@ fn push_records(
     requires placed { ArePlaced (length file.now.records) order.now.numbers.items order.now.places.items }
     requires located { AreLocated file.now (locations_used file.now order.now.numbers.items) locations.now }
     ensures { OnOk result (text.new.items ≡ text.old.items
-        ++ flat_map (lines_of_number file.now order.now.numbers.items order.now.places.items (location_number locations.now)) order.now.numbers.items) }
+        ++ lines_of_numbers file.now order.now.numbers.items order.now.places.items (location_number locations.now)) }
 {
     renumbering_keeps_parts();
     for number in order.numbers() {
@@ -98,7 +97,7 @@ fn push_shapes(
     requires placed { ArePlaced (length file.now.records) order.now.numbers.items order.now.places.items }
     requires completed { Completes file.now file.now.root.number [] order.now.numbers.items }
     requires located { AreLocated file.now (locations_used file.now order.now.numbers.items) locations.now }
-    ensures { OnOk result (text.new.items ≡ text.old.items ++ lines_text (shape_lines (written_file file.now (expansion_of file.now)))) }
+    ensures { OnOk result (text.new.items ≡ text.old.items ++ written_records file.now) }
 {
     push_heading(text, b"TShapes", order.numbers().len())?;
     push_records(text, file, order, locations)?;
@@ -112,7 +111,8 @@ fn push_shapes(
     Ok(())
 }
 
-/// The text of a file, given the order of its records. `room` is how many bytes are expected; the text may have fewer or more.
+/// The text of a file, given the order of its records. `room` is how many bytes are expected; the text may have fewer
+/// or more.
 pub(crate) fn text_in_order(
     alloc: Global,
     file: &File,
@@ -130,8 +130,8 @@ pub(crate) fn text_in_order(
     Ok(text)
 }
 
-/// The text by the written layout of the records that the root leads to. `room` is how many bytes are expected; the text
-/// may have fewer or more.
+/// The text by the written layout of the records that the root leads to. `room` is how many bytes are expected; the
+/// text may have fewer or more.
 pub(crate) fn copy_text(alloc: Global, file: &File, room: usize) -> Result<Vec<u8>, AllocError>
     requires { IsSound file.now }
     ensures { IfOk result (λ text. text.items ≡ text_of file.now (expansion_of file.now)) }
@@ -142,8 +142,8 @@ pub(crate) fn copy_text(alloc: Global, file: &File, room: usize) -> Result<Vec<u
     text_in_order(alloc, file, &order, room)
 }
 
-/// The text of a compound without uses that is made as the root: the file's tables and datums stay. `room` is how many bytes
-/// are expected.
+/// The text of a compound without uses that is made as the root: the file's tables and datums stay. `room` is how many
+/// bytes are expected.
 pub(crate) fn made_text(alloc: Global, file: &File, room: usize) -> Result<Vec<u8>, AllocError>
     requires { IsSound file.now }
     ensures { IfOk result (λ text. text.items ≡ text_of file.now made_root) }

@@ -21,18 +21,23 @@ fn writes_records_in_the_order_of_first_completion(rt: HostRuntime) -> Result<()
     let rows = [
         // A record that the root doesn't reach isn't written, and the numbers close up.
         (
-            "TShapes 3\nVe\n1\n0 0 0\n0 0\n\n0101101\n*\nVe\n1\n1 0 0\n0 0\n\n0101101\n*\nCo\n\n0011000\n+2 0 *\n+1 0\n",
+            "TShapes 3\nVe\n1\n0 0 0\n0 0\n\n0101101\n*\nVe\n1\n1 0 0\n0 0\n\n0101101\n*\nCo\n\n0011000\n+2 0 *\n\
+             +1 0\n",
             "TShapes 2\nVe\n1\n1 0 0\n0 0\n\n0101101\n*\nCo\n\n0011000\n+2 0 *\n+1 0\n",
         ),
         // The vertex that is used first comes first, and the four signs stay.
         (
-            "TShapes 3\nVe\n1\n0 0 0\n0 0\n\n0101101\n*\nVe\n1\n1 0 0\n0 0\n\n0101101\n*\nCo\n\n0011000\ni2 0 e3 0 +2 0 -3 0 *\ne1 0\n",
-            "TShapes 3\nVe\n1\n1 0 0\n0 0\n\n0101101\n*\nVe\n1\n0 0 0\n0 0\n\n0101101\n*\nCo\n\n0011000\ni3 0 e2 0 +3 0 -2 0 *\ne1 0\n",
+            "TShapes 3\nVe\n1\n0 0 0\n0 0\n\n0101101\n*\nVe\n1\n1 0 0\n0 0\n\n0101101\n*\nCo\n\n0011000\n\
+             i2 0 e3 0 +2 0 -3 0 *\ne1 0\n",
+            "TShapes 3\nVe\n1\n1 0 0\n0 0\n\n0101101\n*\nVe\n1\n0 0 0\n0 0\n\n0101101\n*\nCo\n\n0011000\n\
+             i3 0 e2 0 +3 0 -2 0 *\ne1 0\n",
         ),
         // Two records with equal data stay two; a compound that is used twice stays one.
         (
-            "TShapes 4\nVe\n1\n0 0 0\n0 0\n\n0101101\n*\nVe\n1\n0 0 0\n0 0\n\n0101101\n*\nCo\n\n0011000\n+4 0 +3 0 *\nCo\n\n0011000\n+2 0 -2 0 *\n+1 0\n",
-            "TShapes 4\nVe\n1\n0 0 0\n0 0\n\n0101101\n*\nVe\n1\n0 0 0\n0 0\n\n0101101\n*\nCo\n\n0011000\n+4 0 +3 0 *\nCo\n\n0011000\n+2 0 -2 0 *\n+1 0\n",
+            "TShapes 4\nVe\n1\n0 0 0\n0 0\n\n0101101\n*\nVe\n1\n0 0 0\n0 0\n\n0101101\n*\nCo\n\n0011000\n\
+             +4 0 +3 0 *\nCo\n\n0011000\n+2 0 -2 0 *\n+1 0\n",
+            "TShapes 4\nVe\n1\n0 0 0\n0 0\n\n0101101\n*\nVe\n1\n0 0 0\n0 0\n\n0101101\n*\nCo\n\n0011000\n\
+             +4 0 +3 0 *\nCo\n\n0011000\n+2 0 -2 0 *\n+1 0\n",
         ),
         // The root may be a vertex.
         (
@@ -56,7 +61,9 @@ fn writes_records_in_the_order_of_first_completion(rt: HostRuntime) -> Result<()
 fn reads_files_as_open_cascade_writes_them(rt: HostRuntime) -> Result<(), Fail> {
     let alloc = rt.alloc();
     let first =
-        "\nDBRep_DrawableShape\n\nCASCADE Topology V1, (c) Matra-Datavision\r\nLocations 0\nCurve2ds 0\nCurves 0\nPolygon3D 0\nPolygonOnTriangulations 0\nSurfaces 0\nTriangulations 0\n\nTShapes 2\nVe\n1e-07\n0 0 0\n0 0\n\n0101101\n*\nCo\n\n0011000\n+2 0 -2 0 *\n\n+1 0 ";
+        "\nDBRep_DrawableShape\n\nCASCADE Topology V1, (c) Matra-Datavision\r\nLocations 0\nCurve2ds 0\nCurves 0\n\
+         Polygon3D 0\nPolygonOnTriangulations 0\nSurfaces 0\nTriangulations 0\n\nTShapes 2\nVe\n1e-07\n0 0 0\n0 0\n\n\
+         0101101\n*\nCo\n\n0011000\n+2 0 -2 0 *\n\n+1 0 ";
     assert_eq!(rt; copy_of(alloc, first, 4096)?.as_str(), TWICE);
     let mut last = String::from_str(alloc, TWICE)?;
     last.push_str("0\n")?;
@@ -65,11 +72,13 @@ fn reads_files_as_open_cascade_writes_them(rt: HostRuntime) -> Result<(), Fail> 
     // Ten uses to a line.
     let mut ten = String::from_str(alloc, HEAD)?;
     ten.push_str(
-        "TShapes 2\nVe\n 1e-07\n 0 0 0\n0 0\n\n0101101\n*\nCo\n\n1100000\n+2 0 +2 0 +2 0 +2 0 +2 0 +2 0 +2 0 +2 0 +2 0 +2 0 \n+2 0 *\n\n+1 0 ",
+        "TShapes 2\nVe\n 1e-07\n 0 0 0\n0 0\n\n0101101\n*\nCo\n\n1100000\n\
+         +2 0 +2 0 +2 0 +2 0 +2 0 +2 0 +2 0 +2 0 +2 0 +2 0 \n+2 0 *\n\n+1 0 ",
     )?;
     let mut one = String::from_str(alloc, HEAD)?;
     one.push_str(
-        "TShapes 2\nVe\n1e-07\n0 0 0\n0 0\n\n0101101\n*\nCo\n\n1100000\n+2 0 +2 0 +2 0 +2 0 +2 0 +2 0 +2 0 +2 0 +2 0 +2 0 +2 0 *\n+1 0\n",
+        "TShapes 2\nVe\n1e-07\n0 0 0\n0 0\n\n0101101\n*\nCo\n\n1100000\n\
+         +2 0 +2 0 +2 0 +2 0 +2 0 +2 0 +2 0 +2 0 +2 0 +2 0 +2 0 *\n+1 0\n",
     )?;
     assert_eq!(rt; copy_of(alloc, ten.as_str(), 4096)?.as_str(), one.as_str());
     Ok(())

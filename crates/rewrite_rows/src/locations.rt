@@ -27,7 +27,8 @@ fn copies_as(
     Ok(copy_of(alloc, read.as_str(), 4096)?.as_str() == due.as_str())
 }
 
-/// Two elementary transformations, a move by 5 along x and one by 7 along y; their product, and the inverse of the second.
+/// Two elementary transformations, a move by 5 along x and one by 7 along y; their product, and the inverse of the
+/// second.
 const FOUR: &str =
     "Locations 4\n1 1 0 0 5 0 1 0 0 0 0 1 0\n1 1 0 0 0 0 1 0 7 0 0 1 0\n2 1 1 2 1 0\n2 2 -1 0\n";
 
@@ -62,8 +63,8 @@ fn leaves_out_an_identity(rt: HostRuntime) -> Result<(), Fail> {
     Ok(())
 }
 
-// One word under two numbers and a product that is a datum; then words in the order in which they first occur, the innermost
-// factor first, without one that doesn't occur.
+// One word under two numbers and a product that is a datum; then words in the order in which they first occur, the
+// innermost factor first, without one that doesn't occur.
 #[test]
 fn writes_each_word_once(rt: HostRuntime) -> Result<(), Fail> {
     let alloc = rt.alloc();

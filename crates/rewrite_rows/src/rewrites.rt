@@ -16,8 +16,8 @@ fn answer_of(alloc: Global, text: &str, script: &str) -> Result<(Outcome, bool),
 const UNCHANGED: &str =
     "BREP-HISTORY 1\nrecords 2\n1 1\n2 2\nmodified 0\ngenerated 0\nremoved 0\nend\n";
 
-// Each row: the script, the written records after the lines of the empty sections, and the history. The file is a compound that
-// uses a vertex twice.
+// Each row: the script, the written records after the lines of the empty sections, and the history. The file is a
+// compound that uses a vertex twice.
 #[test]
 fn removes_shapes_with_their_history(rt: HostRuntime) -> Result<(), Fail> {
     let alloc = rt.alloc();
@@ -58,12 +58,14 @@ fn rebuilds_what_stands_above(rt: HostRuntime) -> Result<(), Fail> {
     let alloc = rt.alloc();
     let read = file_of(
         alloc,
-        "TShapes 6\nVe\n1\n0 0 0\n0 0\n\n0101101\n*\nVe\n1\n1 0 0\n0 0\n\n0101101\n*\nCo\n\n0011000\n+6 0 *\nCo\n\n0011000\n+5 0 *\nCo\n\n0011000\n-4 0 +3 0 *\nCo\n\n0011000\n+2 0 +3 0 *\n+1 0\n",
+        "TShapes 6\nVe\n1\n0 0 0\n0 0\n\n0101101\n*\nVe\n1\n1 0 0\n0 0\n\n0101101\n*\nCo\n\n0011000\n+6 0 *\nCo\n\n\
+         0011000\n+5 0 *\nCo\n\n0011000\n-4 0 +3 0 *\nCo\n\n0011000\n+2 0 +3 0 *\n+1 0\n",
     )?;
     // Without vertex 5 the compounds 3, 2 and 1 are other trees, and compound 4 is as it was.
     let written = file_of(
         alloc,
-        "TShapes 5\nVe\n1\n0 0 0\n0 0\n\n0101101\n*\nCo\n\n0011000\n+5 0 *\nCo\n\n0101000\n*\nCo\n\n0101000\n-4 0 +3 0 *\nCo\n\n0101000\n+2 0 +3 0 *\n+1 0\n",
+        "TShapes 5\nVe\n1\n0 0 0\n0 0\n\n0101101\n*\nCo\n\n0011000\n+5 0 *\nCo\n\n0101000\n*\nCo\n\n0101000\n\
+         -4 0 +3 0 *\nCo\n\n0101000\n+2 0 +3 0 *\n+1 0\n",
     )?;
     let (file, told) = rewritten(alloc, read.as_str(), "remove 5\n")?;
     assert_eq!(rt; file.as_str(), written.as_str());
@@ -75,7 +77,8 @@ fn rebuilds_what_stands_above(rt: HostRuntime) -> Result<(), Fail> {
     let (file, told) = rewritten(alloc, read.as_str(), "remove 3\n")?;
     let written = file_of(
         alloc,
-        "TShapes 4\nVe\n1\n0 0 0\n0 0\n\n0101101\n*\nCo\n\n0011000\n+4 0 *\nCo\n\n0101000\n-3 0 *\nCo\n\n0101000\n+2 0 *\n+1 0\n",
+        "TShapes 4\nVe\n1\n0 0 0\n0 0\n\n0101101\n*\nCo\n\n0011000\n+4 0 *\nCo\n\n0101000\n-3 0 *\nCo\n\n0101000\n\
+         +2 0 *\n+1 0\n",
     )?;
     assert_eq!(rt; file.as_str(), written.as_str());
     assert_eq!(rt;
@@ -222,9 +225,9 @@ fn scripts_have_limits(rt: HostRuntime) -> Result<(), Fail> {
     Ok(())
 }
 
-// Over a desk that moves one byte a call a rewrite of 209 bytes by an empty script makes these calls: 1 to 212 read the file,
-// 213 to 215 the script; 216 begins the file's writing, 217 to 425 write it, 426 ends it; 427 begins the history's, 428 to 497
-// write its 70 bytes, 498 ends it.
+// Over a desk that moves one byte a call a rewrite of 209 bytes by an empty script makes these calls: 1 to 212 read the
+// file, 213 to 215 the script; 216 begins the file's writing, 217 to 425 write it, 426 ends it; 427 begins the
+// history's, 428 to 497 write its 70 bytes, 498 ends it.
 #[test]
 fn a_fault_of_the_history_leaves_the_file_whole(rt: HostRuntime) -> Result<(), Fail> {
     let alloc = rt.alloc();

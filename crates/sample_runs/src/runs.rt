@@ -9,11 +9,14 @@ use std::sync::ledger::{Blank, Ledger};
 
 /// The lines before the section of the records.
 pub const HEAD: &str =
-    "CASCADE Topology V1, (c) Matra-Datavision\nLocations 0\nCurve2ds 0\nCurves 0\nPolygon3D 0\nPolygonOnTriangulations 0\nSurfaces 0\nTriangulations 0\n";
+    "CASCADE Topology V1, (c) Matra-Datavision\nLocations 0\nCurve2ds 0\nCurves 0\nPolygon3D 0\n\
+     PolygonOnTriangulations 0\nSurfaces 0\nTriangulations 0\n";
 
 /// The file of two records in which a compound uses a vertex twice.
 pub const TWICE: &str =
-    "CASCADE Topology V1, (c) Matra-Datavision\nLocations 0\nCurve2ds 0\nCurves 0\nPolygon3D 0\nPolygonOnTriangulations 0\nSurfaces 0\nTriangulations 0\nTShapes 2\nVe\n1e-07\n0 0 0\n0 0\n\n0101101\n*\nCo\n\n0011000\n+2 0 -2 0 *\n+1 0\n";
+    "CASCADE Topology V1, (c) Matra-Datavision\nLocations 0\nCurve2ds 0\nCurves 0\nPolygon3D 0\n\
+     PolygonOnTriangulations 0\nSurfaces 0\nTriangulations 0\nTShapes 2\nVe\n1e-07\n0 0 0\n0 0\n\n0101101\n*\nCo\n\n\
+     0011000\n+2 0 -2 0 *\n+1 0\n";
 
 /// A file of these records, given with their count.
 pub fn file_of(alloc: Global, records: &str) -> Result<String, AllocError> {

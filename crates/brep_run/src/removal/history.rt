@@ -1,6 +1,6 @@
 //! What the history of a removal says, in numbers.
 ghost use Rattle.brep_run.specs.Completion.{ArePlaced};
-ghost use Rattle.brep_run.specs.Remaining.{is_gone, is_modified, is_supported, pair_of, passing};
+ghost use Rattle.brep_run.specs.Remaining.{is_gone, is_modified, is_supported, numbers_gone, pair_of, passing};
 ghost use Rattle.expansion_laws.specs.Expansion.{IsNumberOf};
 ghost use Rattle.std.specs.Prelude.{◌≡◌, IfOk, length, map, reverse};
 
@@ -49,7 +49,7 @@ pub(crate) fn gone_numbers(
 ) -> Result<Numbers, AllocError>
     requires before { length before.now.places.items ≡ length file.now.records }
     requires after { length after.now.places.items ≡ length file.now.records }
-    ensures { IfOk result (λ gone. gone ≡ passing (is_gone file.now before.now.places.items after.now.places.items) (length file.now.records)) }
+    ensures { IfOk result (λ gone. gone ≡ numbers_gone file.now before.now.places.items after.now.places.items) }
 {
     let mut gone = Numbers::new(alloc);
     for place in 0..file.records.len() {

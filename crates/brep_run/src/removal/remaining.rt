@@ -15,8 +15,8 @@ pub(crate) struct Remaining {
     pub(crate) changed: Vec<bool>,
 }
 
-/// Leaves out of a record the uses of those that are marked. A record changes where it has such a use, or one of a record
-/// that has changed.
+/// Leaves out of a record the uses of those that are marked. A record changes where it has such a use, or one of a
+/// record that has changed.
 fn leave_out(entry: &mut Record, marks: &[bool], changed: &[bool]) -> bool
     ensures touches { result ≡ is_touched (mark_of marks.now) (mark_of changed.now) entry.old.uses }
     ensures entry { entry.new ≡ touched (mark_of marks.now) result entry.old }

@@ -1,12 +1,12 @@
 //! The lines of a record, appended to a text.
 ghost use Rattle.brep_file.specs.declared.uses.FileUse.{FileUse};
-ghost use Rattle.brep_run.specs.Completion.{ArePlaced, new_number, renumbered, renumbered_use};
-ghost use Rattle.brep_run.specs.Layout.{heading, record_lines};
+ghost use Rattle.brep_run.specs.Completion.{ArePlaced, IsDataWithin, new_number, text_of_record, text_of_uses};
+ghost use Rattle.brep_run.specs.Layout.{heading};
 ghost use Rattle.brep_file.specs.Spelling.{spell_use};
-ghost use Rattle.brep_tokens.specs.Written.{line_text, lines_text};
+ghost use Rattle.brep_tokens.specs.Written.{line_text};
 ghost use Rattle.expansion_laws.specs.Expansion.{IsNumberOf};
 ghost use Rattle.std.specs.Fmt.{decimal};
-ghost use Rattle.std.specs.List.{flat_map, join_with_byte};
+ghost use Rattle.std.specs.List.{join_with_byte};
 ghost use Rattle.std.specs.Prelude.{◌≡◌, ◌∷◌, ◌++◌, ◌≤◌, All, OnOk, [], length};
 ghost use Rattle.tshape_data.specs.Locations.{data_locations};
 ghost use Rattle.tshape_data.specs.Sound.{IsSoundHead};
@@ -72,7 +72,7 @@ fn push_uses(
     requires within { All (λ u. u.location ≤ length locations.now.section.now) uses.now }
     requires added { All (λ u. IsAdded locations.now u.location) uses.now }
     ensures { OnOk result (text.new.items ≡ text.old.items
-        ++ flat_map (λ u. join_with_byte 32 (spell_use (renumbered_use order.now.numbers.items order.now.places.items (location_number locations.now) u)) ++ 32 ∷ []) uses.now) }
+        ++ text_of_uses order.now.numbers.items order.now.places.items (location_number locations.now) uses.now) }
 {
     for used in uses {
         push_use(
@@ -86,8 +86,8 @@ fn push_uses(
     Ok(())
 }
 
-/// The lines of a record in a file of a version, its uses by the new numbers of records, and its uses and its data by those of
-/// locations.
+/// The lines of a record in a file of a version, its uses by the new numbers of records, and its uses and its data by
+/// those of locations.
 pub(crate) fn push_record(
     text: &mut Vec<u8>,
     source: &Record,
@@ -101,10 +101,11 @@ pub(crate) fn push_record(
     requires numbering { IsNumbering locations.now }
     requires within { All (λ u. u.location ≤ length locations.now.section.now) source.now.uses }
     requires added { All (λ u. IsAdded locations.now u.location) source.now.uses }
-    requires data_within { All (λ place. place ≤ length locations.now.section.now) (data_locations version source.now.head.payload) }
+    requires data_within { IsDataWithin (length locations.now.section.now) version source.now.head.payload }
     requires data_added { All (IsAdded locations.now) (data_locations version source.now.head.payload) }
     ensures { OnOk result (text.new.items ≡ text.old.items
-        ++ lines_text (record_lines version (renumbered order.now.numbers.items order.now.places.items (location_number locations.now) source.now))) }
+        ++ text_of_record version order.now.numbers.items order.now.places.items (location_number locations.now)
+        source.now) }
 {
     push_head(text, &source.head, version, locations)?;
     push_uses(text, source.uses.as_slice(), order, locations)?;

@@ -1,14 +1,11 @@
 //! The locations that are written: which they are, and their lines.
-ghost use Rattle.brep_run.specs.Completion.{ArePlaced, AreLocated, NumbersTell, locations_of, locations_of_number, locations_used};
-ghost use Rattle.brep_run.specs.Layout.{location_lines};
-ghost use Rattle.brep_tokens.specs.Written.{line_text, lines_text};
+ghost use Rattle.brep_run.specs.Completion.{ArePlaced, AreLocated, NumbersTell};
+ghost use Rattle.brep_run.specs.Completion.{locations_of, locations_of_numbers, locations_used};
+ghost use Rattle.brep_run.specs.Layout.{datums_text, locations_text, pair_text, words_text};
+ghost use Rattle.brep_tokens.specs.Written.{line_text};
 ghost use Rattle.location_table.specs.Locations.{spell_location};
 ghost use Rattle.location_table.specs.Spell.{CanSpellLocation};
-ghost use Rattle.location_table.specs.Words.{datums_of};
 ghost use Rattle.location_table.specs.Written.{product_of};
-ghost use Rattle.location_table.specs.declared.entry.LocationEntry.TheVariants.{Datum};
-ghost use Rattle.std.specs.Fmt.{decimal, signed_decimal};
-ghost use Rattle.std.specs.List.{flat_map};
 ghost use Rattle.std.specs.Prelude.{◌≡◌, ◌∷◌, ◌++◌, ◌≤◌, All, IfOk, OnOk, [], length, map};
 ghost use Rattle.written_locations.specs.Added.{further_of, IsNumbering, Adds};
 
@@ -51,7 +48,7 @@ fn add_record_locations(
     requires placed { ArePlaced (length file.now.records) order.now.numbers.items order.now.places.items }
     requires numbering { IsNumbering locations.old }
     requires section { locations.old.section.now ≡ file.now.locations }
-    ensures { OnOk result (Adds (flat_map (locations_of_number file.now) order.now.numbers.items) locations.old locations.new) }
+    ensures { OnOk result (Adds (locations_of_numbers file.now order.now.numbers.items) locations.old locations.new) }
 {
     renumbering_keeps_parts();
     added_parts_join();
@@ -83,7 +80,7 @@ pub(crate) fn locations_in<'a>(
 /// The line of an entry that is a datum; of another entry nothing.
 fn push_if_datum(text: &mut Vec<u8>, entry: &LocationEntry) -> Result<(), AllocError>
     requires { CanSpellLocation entry.now }
-    ensures { OnOk result (text.new.items ≡ text.old.items ++ lines_text (map spell_location (map Datum (datums_of (entry.now ∷ []))))) }
+    ensures { OnOk result (text.new.items ≡ text.old.items ++ datums_text (entry.now ∷ [])) }
 {
     match entry {
         LocationEntry::Datum(_) => entry.push_to(text),
@@ -94,7 +91,7 @@ fn push_if_datum(text: &mut Vec<u8>, entry: &LocationEntry) -> Result<(), AllocE
 /// The lines of a section's datums.
 fn push_datums(text: &mut Vec<u8>, section: &Locations) -> Result<(), AllocError>
     requires { All CanSpellLocation section.now }
-    ensures { OnOk result (text.new.items ≡ text.old.items ++ lines_text (map spell_location (map Datum (datums_of section.now)))) }
+    ensures { OnOk result (text.new.items ≡ text.old.items ++ datums_text section.now) }
 {
     for entry in section.as_slice() {
         push_if_datum(text, entry)?;
@@ -104,7 +101,7 @@ fn push_datums(text: &mut Vec<u8>, section: &Locations) -> Result<(), AllocError
 
 /// A power of a datum, with a space before each of the two numbers.
 fn push_pair(text: &mut Vec<u8>, pair: Pair) -> Result<(), AllocError>
-    ensures { OnOk result (text.new.items ≡ text.old.items ++ 32 ∷ (decimal pair.datum ++ 32 ∷ signed_decimal pair.power)) }
+    ensures { OnOk result (text.new.items ≡ text.old.items ++ pair_text pair) }
 {
     text.push(b' ')?;
     push_number(text, pair.datum as usize)?;
@@ -127,7 +124,7 @@ fn push_word(text: &mut Vec<u8>, pairs: &[Pair]) -> Result<(), AllocError>
 /// The lines of the further words.
 fn push_words(text: &mut Vec<u8>, locations: &WrittenLocations<'_>) -> Result<(), AllocError>
     requires { IsNumbering locations.now }
-    ensures { OnOk result (text.new.items ≡ text.old.items ++ lines_text (map spell_location (map product_of (further_of locations.now)))) }
+    ensures { OnOk result (text.new.items ≡ text.old.items ++ words_text (further_of locations.now)) }
 {
     for i in 0..locations.len() {
         push_word(text, locations.further(i).pairs())?;
@@ -142,7 +139,7 @@ pub(crate) fn push_locations(
 ) -> Result<(), AllocError>
     requires numbering { IsNumbering locations.now }
     requires can { All CanSpellLocation locations.now.section.now }
-    ensures { OnOk result (text.new.items ≡ text.old.items ++ lines_text (location_lines (locations_of locations.now))) }
+    ensures { OnOk result (text.new.items ≡ text.old.items ++ locations_text (locations_of locations.now)) }
 {
     sections_hold();
     added_parts_join();

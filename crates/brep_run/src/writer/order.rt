@@ -1,5 +1,5 @@
 //! The order in which records are written.
-ghost use Rattle.brep_run.specs.Completion.{ArePlaced, Completes, FirstStay, NumbersTell, new_number};
+ghost use Rattle.brep_run.specs.Completion.{ArePlaced, Completes, FirstStay, IsOrdered, NumbersTell, new_number};
 ghost use Rattle.brep_file.specs.PlainRecords.{record_of};
 ghost use Rattle.brep_run.specs.Remaining.{has_place};
 ghost use Rattle.expansion_laws.specs.Expansion.{IsNumberOf};
@@ -8,8 +8,8 @@ ghost use Rattle.std.specs.Prelude.{◌≡◌, ◌∷◌, ◌++◌, ◌+◌, ◌
 use brep_file::{File, Record};
 use std::alloc::{AllocError, Global};
 
-/// The numbers of records in the order of first completion, and the place of each record among them, counted from 1, or 0
-/// before its turn.
+/// The numbers of records in the order of first completion, and the place of each record among them, counted from 1, or
+/// 0 before its turn.
 #[derive(Drop)]
 pub(crate) struct Order {
     numbers: Vec<u32>,
@@ -68,7 +68,7 @@ impl Order {
         requires placed { ArePlaced (length self.old.places.items) self.old.numbers.items self.old.places.items }
         requires number { IsNumberOf (length self.old.places.items) number }
         requires new { slice_index self.old.places.items (number - 1) ≡ 0 }
-        ensures placed { OnOk result (ArePlaced (length self.old.places.items) self.new.numbers.items self.new.places.items) }
+        ensures placed { OnOk result (IsOrdered (length self.old.places.items) self.new) }
         ensures numbers { OnOk result (self.new.numbers.items ≡ self.old.numbers.items ++ number ∷ []) }
         ensures places { OnOk result (self.new.places.items
             ≡ slice_set self.old.places.items (number - 1) (length self.old.numbers.items + 1)) }
@@ -83,7 +83,7 @@ impl Order {
         requires tell { NumbersTell file.now }
         requires placed { ArePlaced (length file.now.records) self.old.numbers.items self.old.places.items }
         requires number { IsNumberOf (length file.now.records) number }
-        ensures placed { OnOk result (ArePlaced (length file.now.records) self.new.numbers.items self.new.places.items) }
+        ensures placed { OnOk result (IsOrdered (length file.now.records) self.new) }
         ensures completed { OnOk result (Completes file.now number self.old.numbers.items self.new.numbers.items) }
         ensures stay { OnOk result (FirstStay (number - 1) self.old.places.items self.new.places.items) }
     {

@@ -1,6 +1,6 @@
 //! The tables of a file, as they are: each entry on a line.
 ghost use Rattle.brep_file.specs.Sound.{IsSound};
-ghost use Rattle.brep_run.specs.Layout.{section_lines, table_lines};
+ghost use Rattle.brep_run.specs.Layout.{section_text, table_lines};
 ghost use Rattle.brep_tokens.specs.Written.{line_text, lines_text};
 ghost use Rattle.curve_tables.specs.Shapes.{CanSpell2, CanSpell3};
 ghost use Rattle.curve_tables.specs.Spelling.{spelling2, spelling3};
@@ -40,7 +40,8 @@ fn push_line<I: Iterator<Item = TokenText> + Drop>(
 ) -> Result<(), AllocError>
     requires can { I.can_next tokens }
     requires ends { IsFinite (I.remaining tokens) }
-    ensures { OnOk result ((words : List (List ℕ)) × Drains I.next_gives tokens words × (text.new.items ≡ text.old.items ++ line_text words)) }
+    ensures { OnOk result ((words : List (List ℕ)) × Drains I.next_gives tokens words
+        × (text.new.items ≡ text.old.items ++ line_text words)) }
 {
     let mut first = true;
     for token in tokens {
@@ -163,7 +164,7 @@ fn push_section<T: TableEntry>(
     entries: &[T],
 ) -> Result<(), AllocError>
     requires { All T.can_spell entries.now }
-    ensures { OnOk result (text.new.items ≡ text.old.items ++ lines_text (section_lines word.now T.spelling entries.now)) }
+    ensures { OnOk result (text.new.items ≡ text.old.items ++ section_text word.now T.spelling entries.now) }
 {
     push_heading(text, word, entries.len())?;
     for entry in entries {

@@ -9,7 +9,8 @@ returns-in-Ok-read_file-clause-read g c = λ told. record {
 }
 
 pub returns-in-Ok-read_file-clause-sound : goal.returns-in-Ok-read_file-clause-sound
-returns-in-Ok-read_file-clause-sound g c = (reads-of c.reading_is_exact.ensures _ _ c.in-Ok-read_file.ensures).spells.sound
+returns-in-Ok-read_file-clause-sound g c =
+    (reads-of c.reading_is_exact.ensures _ _ c.in-Ok-read_file.ensures).spells.sound
 
 pub returns-in-Ok-read_file-clause-small : goal.returns-in-Ok-read_file-clause-small
 returns-in-Ok-read_file-clause-small g c = (reads-of c.reading_is_exact.ensures _ _ c.in-Ok-read_file.ensures).small

@@ -3,6 +3,16 @@ use Rattle.brep_run.proofs.TextLemmas.{texts-stand}
 use Rattle.brep_run.proofs.laws.texts_stand_for_roots.Goals as goal
 
 pub returns : goal.returns
-returns c = texts-stand c.roots_are_written.ensures c.records_are_trees.ensures c.fewest.ensures c.written_is_read.ensures c.reading_is_exact.ensures
-    c.written_is_held.ensures c.places_have_words.ensures c.locations_are_exact.ensures c.curves_are_exact.ensures c.surfaces_are_exact.ensures c.meshes_are_exact.ensures c.head_lines_are_exact.ensures c.renumbering_keeps_parts.ensures
-    (record { subtrees = c.subtrees_stand.ensures; sections = c.sections_hold.ensures; further = c.further_words_are_due.ensures; numbers = c.numbers_are_places.ensures })
+returns c =
+    texts-stand c.roots_are_written.ensures c.records_are_trees.ensures c.fewest.ensures c.written_is_read.ensures
+    c.reading_is_exact.ensures
+    c.written_is_held.ensures c.places_have_words.ensures c.locations_are_exact.ensures c.curves_are_exact.ensures
+    c.surfaces_are_exact.ensures c.meshes_are_exact.ensures c.head_lines_are_exact.ensures
+    c.renumbering_keeps_parts.ensures
+    (record {
+      subtrees = c.subtrees_stand.ensures;
+      sections = c.sections_hold.ensures;
+      further =
+          c.further_words_are_due.ensures;
+      numbers = c.numbers_are_places.ensures;
+    })

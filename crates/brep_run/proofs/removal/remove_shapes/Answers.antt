@@ -15,14 +15,18 @@ use Rattle.brep_run.proofs.removal.remove_shapes.Goals as goal
 pub order_of-requires : goal.order_of-requires
 order_of-requires c = record {
   sound = c.requires.sound;
-  trees = c.records_are_trees.ensures (plain_records c.args.file) (plain_root c.args.file) (file-sound c.args.file c.requires.sound);
+  trees =
+      c.records_are_trees.ensures (plain_records c.args.file) (plain_root c.args.file)
+      (file-sound c.args.file c.requires.sound);
   test = c.equal_trees_tell.ensures;
 }
 
 pub root_stays-requires-clause-tell : goal.root_stays-requires-clause-tell
 root_stays-requires-clause-tell c = record {
   sound = c.requires.sound;
-  trees = c.records_are_trees.ensures (plain_records c.args.file) (plain_root c.args.file) (file-sound c.args.file c.requires.sound);
+  trees =
+      c.records_are_trees.ensures (plain_records c.args.file) (plain_root c.args.file)
+      (file-sound c.args.file c.requires.sound);
   test = c.equal_trees_tell.ensures;
 }
 
@@ -33,7 +37,8 @@ returns-then-is_marked c =
     let removed = mark_of c.in_ok-marks.marks.items in
     let before = c.in_ok-before.before in
     let marks = subst (λ n. AreMarks n numbers c.in_ok-marks.marks.items) c.len.ensures c.in_ok-marks.ensures in
-    let walk = c.records_are_trees.ensures (kept_records f removed) (plain_root f) (kept-file f removed c.requires.sound) in
+    let walk =
+    c.records_are_trees.ensures (kept_records f removed) (plain_root f) (kept-file f removed c.requires.sound) in
     let tell : NumbersTell f = record {
       sound = c.requires.sound;
       trees = c.records_are_trees.ensures (plain_records f) (plain_root f) (file-sound f c.requires.sound);
@@ -48,11 +53,14 @@ returns-then-is_marked c =
       sections = c.sections_hold.ensures;
       numbers = c.numbers_are_places.ensures;
     } in
-    let goes : removed f.root.number ≡ true = ap (λ (l : List Bool). mark_of l f.root.number) (sym c.deref.ensures.value) ∙ sym c.if-is_marked.ensures in
+    let goes : removed f.root.number ≡ true =
+    ap (λ (l : List Bool). mark_of l f.root.number) (sym c.deref.ensures.value) ∙ sym c.if-is_marked.ensures in
     IfOk-weaker (λ (r : Removal). RootGoes f before.places.items r.text.items r.origins r.modified r.removed)
     (λ (r : Removal). (root : Use) × RemovalDone f numbers root r.text.items r.origins r.modified r.removed)
-    (λ r given. goes-done f numbers removed tell (record { named = c.requires.numbers; each = marks.each }) walk laws before.numbers.items before.places.items
-    c.in_ok-before.ensures.placed c.in_ok-before.ensures.completed r.text.items r.origins r.modified r.removed goes given)
+    (λ r given. goes-done f numbers removed tell (record { named = c.requires.numbers; each = marks.each }) walk laws
+    before.numbers.items before.places.items
+    c.in_ok-before.ensures.placed c.in_ok-before.ensures.completed r.text.items r.origins r.modified r.removed goes
+    given)
     c.root_goes.result c.root_goes.ensures
 
 pub returns-else-is_marked : goal.returns-else-is_marked
@@ -62,7 +70,8 @@ returns-else-is_marked c =
     let removed = mark_of c.in_ok-marks.marks.items in
     let before = c.in_ok-before.before in
     let marks = subst (λ n. AreMarks n numbers c.in_ok-marks.marks.items) c.len.ensures c.in_ok-marks.ensures in
-    let walk = c.records_are_trees.ensures (kept_records f removed) (plain_root f) (kept-file f removed c.requires.sound) in
+    let walk =
+    c.records_are_trees.ensures (kept_records f removed) (plain_root f) (kept-file f removed c.requires.sound) in
     let tell : NumbersTell f = record {
       sound = c.requires.sound;
       trees = c.records_are_trees.ensures (plain_records f) (plain_root f) (file-sound f c.requires.sound);
@@ -77,10 +86,14 @@ returns-else-is_marked c =
       sections = c.sections_hold.ensures;
       numbers = c.numbers_are_places.ensures;
     } in
-    let stays : removed f.root.number ≡ false = ap (λ (l : List Bool). mark_of l f.root.number) (sym c.deref.ensures.value) ∙ sym c.if-is_marked.ensures in
-    IfOk-weaker (λ (r : Removal). RootStays f (mark_of c.deref-else-is_marked.result.now) before.places.items r.text.items r.origins r.modified r.removed)
+    let stays : removed f.root.number ≡ false =
+    ap (λ (l : List Bool). mark_of l f.root.number) (sym c.deref.ensures.value) ∙ sym c.if-is_marked.ensures in
+    IfOk-weaker (λ (r : Removal). RootStays f (mark_of c.deref-else-is_marked.result.now) before.places.items
+    r.text.items r.origins r.modified r.removed)
     (λ (r : Removal). (root : Use) × RemovalDone f numbers root r.text.items r.origins r.modified r.removed)
-    (λ r given. stays-done f numbers removed tell (record { named = c.requires.numbers; each = marks.each }) walk laws before.numbers.items before.places.items
+    (λ r given. stays-done f numbers removed tell (record { named = c.requires.numbers; each = marks.each }) walk laws
+    before.numbers.items before.places.items
     c.in_ok-before.ensures.placed c.in_ok-before.ensures.completed r.text.items r.origins r.modified r.removed stays
-    (subst (λ (l : List Bool). RootStays f (mark_of l) before.places.items r.text.items r.origins r.modified r.removed) c.deref-else-is_marked.ensures.value given))
+    (subst (λ (l : List Bool). RootStays f (mark_of l) before.places.items r.text.items r.origins r.modified r.removed)
+    c.deref-else-is_marked.ensures.value given))
     c.root_stays.result c.root_stays.ensures

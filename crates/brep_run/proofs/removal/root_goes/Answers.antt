@@ -10,6 +10,7 @@ returns c = record {
   pairs_are = c.new-2.ensures;
   places = c.in_ok-after.after.places.items;
   none = none-placed (length c.args.file.now.records) c.in_ok-after.after.numbers.items c.in_ok-after.after.places.items
-      (subst (λ n. ArePlaced n c.in_ok-after.after.numbers.items c.in_ok-after.after.places.items) c.len.ensures c.in_ok-after.ensures.placed) c.in_ok-after.ensures.none;
+      (subst (λ n. ArePlaced n c.in_ok-after.after.numbers.items c.in_ok-after.after.places.items) c.len.ensures
+      c.in_ok-after.ensures.placed) c.in_ok-after.ensures.none;
   gone_are = c.in_ok-gone_numbers.ensures;
 }

@@ -13,7 +13,8 @@ pub order_of-requires : goal.order_of-requires
 order_of-requires c =
     let f = c.args.file in
     let removed = mark_of c.args.marks.now in
-    after-tells f removed c.requires.tell (c.records_are_trees.ensures (kept_records f removed) (plain_root f) (kept-file f removed c.requires.tell.sound))
+    after-tells f removed c.requires.tell (c.records_are_trees.ensures (kept_records f removed) (plain_root f)
+    (kept-file f removed c.requires.tell.sound))
     c.in_ok-remaining.remaining.file c.in_ok-remaining.ensures.file
     (λ h sound. c.records_are_trees.ensures (plain_records h) (plain_root h) (file-sound h sound))
 
@@ -21,7 +22,8 @@ pub text_in_order-requires-clause-tell : goal.text_in_order-requires-clause-tell
 text_in_order-requires-clause-tell c =
     let f = c.args.file in
     let removed = mark_of c.args.marks.now in
-    after-tells f removed c.requires.tell (c.records_are_trees.ensures (kept_records f removed) (plain_root f) (kept-file f removed c.requires.tell.sound))
+    after-tells f removed c.requires.tell (c.records_are_trees.ensures (kept_records f removed) (plain_root f)
+    (kept-file f removed c.requires.tell.sound))
     c.in_ok-remaining.remaining.file c.in_ok-remaining.ensures.file
     (λ h sound. c.records_are_trees.ensures (plain_records h) (plain_root h) (file-sound h sound))
 
@@ -29,7 +31,9 @@ pub returns : goal.returns
 returns c =
     let f = c.args.file in
     let removed = mark_of c.args.marks.now in
-    let walk = c.records_are_trees.ensures (kept_records f removed) (plain_root f) (kept-file f removed c.requires.tell.sound) in
+    let walk =
+    c.records_are_trees.ensures (kept_records f removed) (plain_root f)
+    (kept-file f removed c.requires.tell.sound) in
     let g = c.in_ok-remaining.remaining.file in
     let is_after = c.in_ok-remaining.ensures.file in
     let numbers = c.in_ok-after.after.numbers.items in
@@ -47,7 +51,11 @@ returns c =
       origins_are = c.in_ok-origins_in.ensures;
       pairs_are =
           c.in_ok-modified_pairs.ensures
-          ∙ ap (λ (l : List Bool). map (pair_of numbers places) (passing (is_modified g l places) (length g.records))) c.deref.ensures.value
-          ∙ ap (map (pair_of numbers places)) (modified-same f removed c.requires.tell walk g is_after c.in_ok-remaining.remaining.changed.items places);
-      gone_are = c.in_ok-gone_numbers.ensures ∙ gone-same f removed c.requires.tell walk g is_after c.args.before.now.places.items places;
+          ∙ ap (λ (l : List Bool). map (pair_of numbers places) (passing (is_modified g l places) (length g.records)))
+          c.deref.ensures.value
+          ∙ ap (map (pair_of numbers places)) (modified-same f removed c.requires.tell walk g is_after
+          c.in_ok-remaining.remaining.changed.items places);
+      gone_are =
+          c.in_ok-gone_numbers.ensures
+          ∙ gone-same f removed c.requires.tell walk g is_after c.args.before.now.places.items places;
     }

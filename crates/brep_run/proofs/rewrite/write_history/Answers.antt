@@ -8,8 +8,17 @@ returns-in-Err-emit-clause-stopped g c =
     (refl, (part.0, part.2, part_then _ g.met.D.Desk.told _ _ _ _ _ _ _ c.in-Ok.ensures.begins part.3))
 
 pub returns-in-Ok-end-clause-done : goal.returns-in-Ok-end-clause-done
-returns-in-Ok-end-clause-done g c = whole_then _ g.met.D.Desk.told _ _ _ _ _ _ _ c.in-Ok.ensures.begins c.in-Ok-emit.ensures.whole _ refl c.in-Ok-end.ensures.ends
+returns-in-Ok-end-clause-done g c =
+    whole_then _ g.met.D.Desk.told _ _ _ _ _ _ _ c.in-Ok.ensures.begins c.in-Ok-emit.ensures.whole _ refl
+    c.in-Ok-end.ensures.ends
 
 pub returns-in-Err-end-clause-stopped : goal.returns-in-Err-end-clause-stopped
-returns-in-Err-end-clause-stopped g c =
-    (refl, (_, c.in-Ok-emit.ensures.size, part_kept _ g.met.D.Desk.told _ _ _ _ _ _ _ c.in-Ok.ensures.begins c.in-Ok-emit.ensures.whole _ c.in-Err-end.ensures.unchanged))
+returns-in-Err-end-clause-stopped g c = (
+  refl,
+  (
+    _,
+    c.in-Ok-emit.ensures.size,
+    part_kept _ g.met.D.Desk.told _ _ _ _ _ _ _ c.in-Ok.ensures.begins c.in-Ok-emit.ensures.whole _
+        c.in-Err-end.ensures.unchanged,
+  ),
+)

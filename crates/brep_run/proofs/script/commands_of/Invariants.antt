@@ -7,7 +7,8 @@ use Rattle.brep_run.proofs.script.commands_of.Given as goal
 abbrev pub invariant-lines : goal.invariant-lines
 invariant-lines l = record {
   numbered : l.at + length (lines_left l.lines) ≡ length (script_lines l.script);
-  read : after_commands l.taken.items (lines_read l.shapes l.locations (l.at + 1) (lines_left l.lines)) ≡ script_read l.shapes l.locations l.script;
+  read : after_commands l.taken.items (lines_read l.shapes l.locations (l.at + 1) (lines_left l.lines))
+      ≡ script_read l.shapes l.locations l.script;
 }
 
 abbrev pub decreases-lines : goal.decreases-lines

@@ -9,7 +9,10 @@ returns-in-Ok-Some-clause-in_range c =
     let few_shapes = c.ranges.shapes.fits in
     let few_locations = c.ranges.locations.fits in
     numbers-in c.args.shapes c.args.locations
-    (c.commands_have_lines.ensures c.args.shapes c.args.locations (omega (arith, few_shapes)) (omega (arith, few_locations)))
+    (c.commands_have_lines.ensures c.args.shapes c.args.locations (omega (arith, few_shapes))
+    (omega (arith, few_locations)))
     c.args.script.now c.in_ok-commands.commands.items c.in-Ok-Some.numbers.items c.in_ok-commands.ensures.ok
     (ap removals_of (sym c.deref.ensures.value)
-    ∙ subst (λ r. MatchOption r (removals_of c.deref.result.now ≡ None) (λ numbers. removals_of c.deref.result.now ≡ Some numbers.items)) c.in-Ok-Some.field-0-is c.in-Ok-Some.ensures)
+    ∙ subst (λ r. MatchOption r (removals_of c.deref.result.now ≡ None)
+    (λ numbers. removals_of c.deref.result.now ≡ Some numbers.items)) c.in-Ok-Some.field-0-is
+    c.in-Ok-Some.ensures)

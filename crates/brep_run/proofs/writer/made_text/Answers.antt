@@ -13,5 +13,6 @@ returns c =
     c.in_ok-extend_from_slice.ensures.items
     ∙ (λ i. c.in_ok-text.ensures i ++ sym (made_shapes f) i)
     ∙ sym (text_parts f made_root _
-    ((λ i. location_lines (written_section (datums_of (c.in_ok-locations.ensures.section i)) (c.in_ok-locations.ensures.none i)))
+    ((λ i. location_lines (written_section (datums_of (c.in_ok-locations.ensures.section i))
+    (c.in_ok-locations.ensures.none i)))
     ∙ ap (λ w. location_lines (written_section (datums_of f.locations) w)) (sym (made-words f))))

@@ -6,4 +6,5 @@ use Rattle.brep_run.proofs.writer.push_records.Given as goal
 
 abbrev pub invariant-loop-number : goal.invariant-loop-number
 invariant-loop-number l = l.text.items ≡ l.initial.text.items
-    ++ flat_map (lines_of_number l.file l.order.numbers.items l.order.places.items (location_number l.locations)) (take l.number-index l.number-items)
+    ++ flat_map (lines_of_number l.file l.order.numbers.items l.order.places.items (location_number l.locations))
+    (take l.number-index l.number-items)

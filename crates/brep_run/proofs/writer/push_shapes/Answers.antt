@@ -17,7 +17,9 @@ pub number-requires-clause-added : goal.number-requires-clause-added
 number-requires-clause-added c =
     let f = c.args.file.now in
     let numbers = c.args.order.now.numbers.items in
-    c.requires.located.added f.root.location (Contains-append_right (flat_map (locations_of_number f) numbers) (f.root.location ∷ []) f.root.location (Contains-here f.root.location []))
+    c.requires.located.added f.root.location
+    (Contains-append_right (flat_map (locations_of_number f) numbers) (f.root.location ∷ []) f.root.location
+    (Contains-here f.root.location []))
 
 pub returns : goal.returns
 returns c =
@@ -32,8 +34,16 @@ returns c =
     let records : List ℕ = flat_map (lines_of_number f numbers places (location_number s)) numbers in
     c.in_ok-push_use.ensures
     ∙ append_assoc c.push_records.new.text.items (join_with_byte 32 (spell_use used)) (10 ∷ [])
-    ∙ ap (λ t. t ++ (join_with_byte 32 (spell_use used) ++ 10 ∷ [])) (c.in_ok-push_records.ensures ∙ ap (λ t. t ++ records) (c.in_ok-push_heading.ensures ∙ ap (λ n. c.args.text.now.items ++ line_text (heading (codes "TShapes") n)) count))
-    ∙ ap (λ u. ((c.args.text.now.items ++ line_text (heading (codes "TShapes") (length numbers))) ++ records) ++ line_text (spell_use u)) same
-    ∙ append_assoc (c.args.text.now.items ++ line_text (heading (codes "TShapes") (length numbers))) records (line_text (spell_use (renumbered_use numbers places (location_number s) f.root)))
-    ∙ append_assoc c.args.text.now.items (line_text (heading (codes "TShapes") (length numbers))) (records ++ line_text (spell_use (renumbered_use numbers places (location_number s) f.root)))
-    ∙ ap (λ t. c.args.text.now.items ++ t) (sym (shapes_are f c.requires.tell numbers places c.requires.placed c.requires.completed s c.requires.located))
+    ∙ ap (λ t. t ++ (join_with_byte 32 (spell_use used) ++ 10 ∷ []))
+    (c.in_ok-push_records.ensures
+    ∙ ap (λ t. t ++ records) (c.in_ok-push_heading.ensures
+    ∙ ap (λ n. c.args.text.now.items ++ line_text (heading (codes "TShapes") n)) count))
+    ∙ ap (λ u. ((c.args.text.now.items ++ line_text (heading (codes "TShapes") (length numbers))) ++ records)
+    ++ line_text (spell_use u)) same
+    ∙ append_assoc (c.args.text.now.items ++ line_text (heading (codes "TShapes") (length numbers))) records
+    (line_text (spell_use (renumbered_use numbers places (location_number s) f.root)))
+    ∙ append_assoc c.args.text.now.items (line_text (heading (codes "TShapes") (length numbers)))
+    (records ++ line_text (spell_use (renumbered_use numbers places (location_number s) f.root)))
+    ∙ ap (λ t. c.args.text.now.items
+    ++ t) (sym (shapes_are f c.requires.tell numbers places c.requires.placed c.requires.completed s
+    c.requires.located))

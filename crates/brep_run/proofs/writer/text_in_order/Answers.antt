@@ -12,4 +12,5 @@ returns c =
     c.in_ok-push_shapes.ensures
     ∙ ap (λ t. t ++ lines_text (shape_lines (written_file f (expansion_of f)))) c.in_ok-text.ensures
     ∙ sym (text_parts f (expansion_of f) _
-    (locations_are f c.requires.tell c.args.order.now.numbers.items c.args.order.now.places.items c.requires.placed c.requires.completed c.in_ok-locations.locations c.in_ok-locations.ensures))
+    (locations_are f c.requires.tell c.args.order.now.numbers.items c.args.order.now.places.items c.requires.placed
+    c.requires.completed c.in_ok-locations.locations c.in_ok-locations.ensures))

@@ -10,8 +10,10 @@ loop-place-preserved c =
     let places = c.args.after.now.places.items in
     let test = is_modified c.args.file.now c.args.changed.now places in
     elim c.if-is_modified.branch [
-      | then-is_modified+in_ok-push w ↦ pairs-yes test numbers places c.loop-place.place c.loop-place.pairs c.if-is_modified.pairs w.new_number.result
-          (sym w.if-is_modified.ensures) c.loop-place.invariant w.new_number.ensures (w.pairs-is ∙ w.in_ok-push.ensures.ok)
+      | then-is_modified+in_ok-push w ↦ pairs-yes test numbers places c.loop-place.place c.loop-place.pairs
+          c.if-is_modified.pairs w.new_number.result
+          (sym w.if-is_modified.ensures) c.loop-place.invariant w.new_number.ensures
+          (w.pairs-is ∙ w.in_ok-push.ensures.ok)
       | else-is_modified w ↦ pairs-no test numbers places c.loop-place.place c.loop-place.pairs c.if-is_modified.pairs
           (sym w.if-is_modified.ensures) c.loop-place.invariant w.pairs-is
     ]

@@ -16,14 +16,22 @@ loop-place-preserved c =
     let records = c.loop-place.records.items in
     let changed = c.loop-place.changed.items in
     let flag = c.leave_out-touched.result in
-    let walk = c.records_are_trees.ensures (kept_records f removed) (plain_root f) (kept-file f removed c.requires.tell.sound) in
+    let walk =
+    c.records_are_trees.ensures (kept_records f removed) (plain_root f)
+    (kept-file f removed c.requires.tell.sound) in
     let test = c.loop-place-test.true in
     let size : c.len-count.result ≡ length f.records = search rules in
     let lt : place < length f.records = omega (arith, test, size) in
     let long = c.loop-place.invariant.size in
-    let at : slice_get records place ≡ Some c.index_mut.result.now = slice_get-get_or records place _ (omega (arith, lt, long)) ∙ ap Some (sym c.index_mut.ensures.value) in
+    let at : slice_get records place ≡ Some c.index_mut.result.now =
+    slice_get-get_or records place _ (omega (arith, lt, long)) ∙ ap Some (sym c.index_mut.ensures.value) in
     let tells : flag ≡ is_touched removed (mark_of changed) c.index_mut.result.now.uses =
-    c.leave_out-touched.ensures.touches ∙ ap (λ (l : List Bool). is_touched removed (mark_of l) c.index_mut.result.now.uses) c.deref.ensures.value in
-    let done = one-done f removed c.requires.tell walk place records changed c.loop-place.invariant lt c.index_mut.result.now at flag tells in
-    subst (λ e. AreDone f removed (place + 1) (slice_set records place e) (slice_set changed (c.len-count.result - place - 1) flag)) (sym c.leave_out-touched.ensures.entry)
-    (subst (λ m. AreDone f removed (place + 1) (slice_set records place (touched removed flag c.index_mut.result.now)) (slice_set changed (m - place - 1) flag)) (sym size) done)
+    c.leave_out-touched.ensures.touches
+    ∙ ap (λ (l : List Bool). is_touched removed (mark_of l) c.index_mut.result.now.uses) c.deref.ensures.value in
+    let done =
+    one-done f removed c.requires.tell walk place records changed c.loop-place.invariant lt
+    c.index_mut.result.now at flag tells in
+    subst (λ e. AreDone f removed (place + 1) (slice_set records place e)
+    (slice_set changed (c.len-count.result - place - 1) flag)) (sym c.leave_out-touched.ensures.entry)
+    (subst (λ m. AreDone f removed (place + 1) (slice_set records place (touched removed flag c.index_mut.result.now))
+    (slice_set changed (m - place - 1) flag)) (sym size) done)

@@ -6,5 +6,7 @@ use Rattle.brep_run.proofs.writer.lines.push_record.Goals as goal
 
 pub returns : goal.returns
 returns c =
-    let e = record_text c.args.version c.args.order.now.numbers.items c.args.order.now.places.items (location_number c.args.locations.now) c.args.source.now in
+    let e =
+    record_text c.args.version c.args.order.now.numbers.items c.args.order.now.places.items
+    (location_number c.args.locations.now) c.args.source.now in
     rw e (grind (arith, common_steps))

@@ -11,6 +11,9 @@ loop-entry-preserved c =
     let entry = c.entry-item.result in
     c.in_ok-push_if_datum.ensures
     ∙ ap (λ t. t ++ datum_lines (entry ∷ [])) c.loop-entry.invariant
-    ∙ append_assoc c.args.text.now.items (datum_lines (take c.loop-entry.entry-index entries)) (datum_lines (entry ∷ []))
+    ∙ append_assoc c.args.text.now.items (datum_lines (take c.loop-entry.entry-index entries))
+    (datum_lines (entry ∷ []))
     ∙ ap (λ t. c.args.text.now.items ++ t)
-    (sym (datums-more entries c.loop-entry.entry-index entry c.loop-entry-test.true ∙ ap (λ (e : LocationEntry). datum_lines (take c.loop-entry.entry-index entries) ++ datum_lines (e ∷ [])) (sym c.entry-item.is)))
+    (sym (datums-more entries c.loop-entry.entry-index entry c.loop-entry-test.true
+    ∙ ap (λ (e : LocationEntry). datum_lines (take c.loop-entry.entry-index entries) ++ datum_lines (e ∷ []))
+    (sym c.entry-item.is)))

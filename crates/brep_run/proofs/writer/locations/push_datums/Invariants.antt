@@ -7,4 +7,6 @@ use Rattle.location_table.specs.declared.entry.LocationEntry.TheVariants.{Datum}
 use Rattle.brep_run.proofs.writer.locations.push_datums.Given as goal
 
 abbrev pub invariant-loop-entry : goal.invariant-loop-entry
-invariant-loop-entry l = l.text.items ≡ l.initial.text.items ++ lines_text (map spell_location (map Datum (datums_of (take l.entry-index l.entry-items))))
+invariant-loop-entry l =
+    l.text.items ≡ l.initial.text.items
+    ++ lines_text (map spell_location (map Datum (datums_of (take l.entry-index l.entry-items))))

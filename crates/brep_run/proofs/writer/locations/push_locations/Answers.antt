@@ -6,5 +6,8 @@ use Rattle.brep_run.proofs.writer.locations.push_locations.Goals as goal
 
 pub overflow_add-datums : goal.overflow_add-datums
 overflow_add-datums c =
-    let few = few-written c.sections_hold.ensures c.added_parts_join.ensures c.args.locations.now c.requires.numbering c.datums.result c.len.result (c.datums.ensures ∙ ap (λ l. length (datums_of l)) c.section-section.ensures) c.len.ensures in
+    let few =
+    few-written c.sections_hold.ensures c.added_parts_join.ensures c.args.locations.now c.requires.numbering
+    c.datums.result c.len.result (c.datums.ensures ∙ ap (λ l. length (datums_of l)) c.section-section.ensures)
+    c.len.ensures in
     omega (arith, few)

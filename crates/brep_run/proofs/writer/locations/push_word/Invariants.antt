@@ -1,6 +1,6 @@
 use Rattle.std.proofs.Common.{◌≡◌, ◌++◌, take}
 use Rattle.std.specs.List.{flat_map}
-use Rattle.brep_run.proofs.LocationLoops.{pair_text}
+use Rattle.brep_run.specs.Layout.{pair_text}
 use Rattle.brep_run.proofs.writer.locations.push_word.Given as goal
 
 abbrev pub invariant-loop-pair : goal.invariant-loop-pair

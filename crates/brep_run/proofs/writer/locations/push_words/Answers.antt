@@ -13,4 +13,6 @@ loop-i-preserved c =
     c.in_ok-push_word.ensures
     ∙ ap (λ t. t ++ line_text (spell_location (product_of c.pairs.result.now))) c.loop-i.invariant
     ∙ append_assoc c.args.text.now.items _ (line_text (spell_location (product_of c.pairs.result.now)))
-    ∙ ap (λ t. c.args.text.now.items ++ t) (sym (words-more (further_of c.args.locations.now) c.loop-i.i c.pairs.result.now (c.further.ensures ∙ ap Some (sym c.pairs.ensures.pairs))))
+    ∙ ap (λ t. c.args.text.now.items
+    ++ t) (sym (words-more (further_of c.args.locations.now) c.loop-i.i c.pairs.result.now
+    (c.further.ensures ∙ ap Some (sym c.pairs.ensures.pairs))))

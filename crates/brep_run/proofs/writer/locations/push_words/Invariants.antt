@@ -7,4 +7,6 @@ use Rattle.written_locations.specs.Added.{further_of}
 use Rattle.brep_run.proofs.writer.locations.push_words.Given as goal
 
 abbrev pub invariant-loop-i : goal.invariant-loop-i
-invariant-loop-i l = l.text.items ≡ l.initial.text.items ++ lines_text (map spell_location (map product_of (take l.i (further_of l.locations))))
+invariant-loop-i l =
+    l.text.items ≡ l.initial.text.items
+    ++ lines_text (map spell_location (map product_of (take l.i (further_of l.locations))))

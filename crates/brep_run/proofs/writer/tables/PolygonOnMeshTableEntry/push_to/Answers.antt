@@ -8,4 +8,5 @@ use Rattle.brep_run.proofs.writer.tables.PolygonOnMeshTableEntry.push_to.Goals a
 pub returns : goal.returns
 returns c =
     on_ok_weaker c.push_line.result
-    (λ h. h.2 ∙ ap (λ w. c.args.text.now.items ++ line_text w) (sym (drains-first polygon_on_tokens_left c.spell.result h.0 h.1) ∙ c.spell.ensures.left)) c.push_line.ensures
+    (λ h. h.2 ∙ ap (λ w. c.args.text.now.items ++ line_text w)
+    (sym (drains-first polygon_on_tokens_left c.spell.result h.0 h.1) ∙ c.spell.ensures.left)) c.push_line.ensures
