@@ -1,5 +1,6 @@
 -- Reading the text of a history line by line: the history that it spells, or its first line that disagrees.
-use Rattle.std.specs.Prelude.{ℕ, zero, suc, ◌+◌, ◌==◌, if◌then◌else◌, List, [], ◌∷◌, ◌++◌, length, codes, Option, Some, None, Result, Ok, Err}
+use Rattle.std.specs.Prelude.{ℕ, zero, suc, ◌+◌, ◌==◌, if◌then◌else◌, List, [], ◌∷◌, ◌++◌, length, codes}
+use Rattle.std.specs.Prelude.{Option, Some, None, Result, Ok, Err}
 use Rattle.lists.specs.Results.{◌>>=◌}
 use Rattle.history_text.specs.LineForms.{count_of_line, cut_at, origin_due, pair_due, removed_due, text_of_line}
 use Rattle.history_text.specs.declared.file.HistoryFile.{HistoryFile}

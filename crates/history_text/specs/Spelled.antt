@@ -33,16 +33,16 @@ Gives read (Ok h) = read ≡ Ok h
 Gives read (Err (NotHistory line)) = read ≡ Err line
 Gives read (Err NoMemory) = Unit {0}
 
--- A text is read as the history that it spells; it spells at most one, and none exactly where a line disagrees; the text
--- of each history that can be read back is read as it.
+-- A text is read as the history that it spells; it spells at most one, and none exactly where a line disagrees; the
+-- text of each history that can be read back is read as it.
 pub record TextsSpellOneHistory : Type 0 where
   pub read : (bytes : List ℕ) (h : HistoryFile) → (history_of bytes ≡ Ok h) ↔ SpellsHistory bytes h
   pub one : (bytes : List ℕ) (g h : HistoryFile) → SpellsHistory bytes g → SpellsHistory bytes h → g ≡ h
   pub none : (bytes : List ℕ) → SpellsNone bytes ↔ ((line : ℕ) × (first_that_disagrees bytes ≡ Some line))
   pub written : (h : HistoryFile) → IsHistory h → history_of (text_of h) ≡ Ok h
 
--- The text of a history that goes on disagrees at the line after its last one; where it breaks off after so many of its lines,
--- the next one disagrees.
+-- The text of a history that goes on disagrees at the line after its last one; where it breaks off after so many of its
+-- lines, the next one disagrees.
 pub record FaultsHaveTheirLine : Type 0 where
   pub longer : (h : HistoryFile) (more : List ℕ) → IsHistory h → 0 < length more
       → first_that_disagrees (text_of h ++ more) ≡ Some (length (history_lines h) + 1)

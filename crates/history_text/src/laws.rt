@@ -3,7 +3,7 @@ ghost use Rattle.history_text.specs.Spelled.{FaultsHaveTheirLine, TextsSpellOneH
 
 use brep_tokens::laws::forms_are_exact;
 
-/// A text spells at most one history, and is read as it; what `emit` writes of a history that can be read back spells it.
+/// A text spells at most one history, and is read as it; so is what `emit` writes of a history that can be read back.
 pub fn texts_spell_one_history()
     ensures { TextsSpellOneHistory }
 {

@@ -1,5 +1,5 @@
-//! The history of a rewriting as a text file, written and read: which record each written record comes from, and what was
-//! modified, generated and removed.
+//! The history of a rewriting as a text file, written and read: which record each written record comes from, and what
+//! was modified, generated and removed.
 #![tactic(auto)]
 
 mod fault;

@@ -1,7 +1,9 @@
 //! What single lines say, each without the byte 10 that ends it.
 ghost use Rattle.history_text.specs.HistoryText.{is_pair_below};
-ghost use Rattle.history_text.specs.LineForms.{count_of_line, cut_at, is_above, is_same, last_of, origin_due, pair_due, pair_of_line, removed_due};
-ghost use Rattle.std.specs.Prelude.{◌≡◌, ℕ, ◌<◌, ◌≤◌, MatchOption, None, Some, false, length, nat_lt, slice_index, true, ◌==◌};
+ghost use Rattle.history_text.specs.LineForms.{count_of_line, cut_at, is_above, is_same, last_of};
+ghost use Rattle.history_text.specs.LineForms.{origin_due, pair_due, pair_of_line, removed_due};
+ghost use Rattle.std.specs.Prelude.{◌≡◌, ℕ, ◌<◌, ◌≤◌, ◌==◌, MatchOption, None, Some, false, length, nat_lt};
+ghost use Rattle.std.specs.Prelude.{slice_index, true};
 
 use crate::pairs::NumberPairs;
 use brep_tokens::{Numbers, number};

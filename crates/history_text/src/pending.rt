@@ -77,7 +77,8 @@ impl Pending {
         ensures later { D.faults desk.old ≤ D.faults desk.new }
         ensures cause { OnErr result (Rose (D.faults desk.old) (D.faults desk.new)) }
         ensures no_fault { OnOk result (D.faults desk.new ≡ D.faults desk.old) }
-        ensures sends { Sends D.tells (D.shows desk.old) (D.shows desk.new) c.number self.old self.new piece.now result }
+        ensures sends { Sends D.tells (D.shows desk.old) (D.shows desk.new) c.number self.old self.new
+            piece.now result }
     {
         if self.bytes.try_extend_from_slice(piece).is_ok() {
             return Ok(());

@@ -101,8 +101,8 @@ fn put_history<D: Desk>(
     pending.put(desk, c, b"end\n")
 }
 
-/// Appends the text of the history over a channel, in pieces of some thousand bytes. Answers how many bytes it has, or the last
-/// number of 64 bits where it has more. Takes no memory of its own.
+/// Appends the text of the history over a channel, in pieces of some thousand bytes. Answers how many bytes it has, or
+/// the last number of 64 bits where it has more. Takes no memory of its own.
 pub fn emit<D: Desk>(h: &HistoryFile, desk: &mut D, c: Chan) -> Result<u64, WriteStop>
     ensures later { D.faults desk.old ≤ D.faults desk.new }
     ensures cause { OnErr result (Rose (D.faults desk.old) (D.faults desk.new)) }

@@ -12,10 +12,12 @@ const ONE_REMOVED: &[u8] =
 const NOTHING: &[u8] = b"BREP-HISTORY 1\nrecords 0\nmodified 0\ngenerated 0\nremoved 0\nend\n";
 
 const EDGE_BY_WIRE: &[u8] =
-    b"BREP-HISTORY 1\nrecords 7\n1 1\n2 3\n3 4\n4 8\n5 5\n6 7\n7 9\nmodified 2\n6 3\n6 5\ngenerated 1\n6 6\nremoved 0\nend\n";
+    b"BREP-HISTORY 1\nrecords 7\n1 1\n2 3\n3 4\n4 8\n5 5\n6 7\n7 9\nmodified 2\n6 3\n6 5\ngenerated 1\n6 6\n\
+    removed 0\nend\n";
 
 const LARGEST: &[u8] =
-    b"BREP-HISTORY 1\nrecords 2\n1 0\n2 999999999999999999\nmodified 3\n6 2\n8 1\n8 2\ngenerated 1\n999999999999999999 1\nremoved 2\n0\n999999999999999999\nend\n";
+    b"BREP-HISTORY 1\nrecords 2\n1 0\n2 999999999999999999\nmodified 3\n6 2\n8 1\n8 2\n\
+    generated 1\n999999999999999999 1\nremoved 2\n0\n999999999999999999\nend\n";
 
 /// What `emit` writes of a history.
 fn writes(rt: &impl Abort, alloc: Global, h: &HistoryFile, text: &[u8]) -> Result<(), Fail> {
