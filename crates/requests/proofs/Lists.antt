@@ -1,7 +1,6 @@
 -- What is read of lists by place.
-use Rattle.std.proofs.Common.{◌≡◌, ◌≢◌, ◌≤◌, ◌<◌, ◌+◌, ◌⊎◌, ℕ, zero, suc, Bool, true, false, List, map, ◌++◌, ◌∷◌, [], All, Contains, length, take, set, arith, sym, ◌∙◌, ap, subst, refl, slice_get, slice_index_or, Option, Some, None, inl, inr}
+use Rattle.std.proofs.Common.{◌≡◌, ◌≢◌, ◌<◌, ◌+◌, ℕ, zero, suc, Bool, true, false, List, map, ◌++◌, ◌∷◌, [], All, length, take, set, arith, sym, ◌∙◌, ap, subst, refl, slice_get, Option, Some}
 use Rattle.std.specs.Prelude.{unwrap_or}
-use Rattle.std.proofs.lemmas.Option.{slice_get_within, slice_get_past, slice_get-get_or}
 
 -- by the two values of a test
 abbrev pub by_test : {P : Type 0} (b : Bool) → (b ≡ true → P) → (b ≡ false → P) → P

@@ -1,5 +1,5 @@
 -- Live requests where one more is given, and the lists in which a table keeps them.
-use Rattle.std.proofs.Common.{◌≡◌, ◌≢◌, ◌≤◌, ◌<◌, ◌+◌, ◌⊎◌, ℕ, zero, suc, Bool, true, false, List, ◌++◌, ◌∷◌, [], length, set, arith, sym, ◌∙◌, ap, subst, refl, slice_get, slice_index_or, Option, Some, None, inl, inr, Vec, Global, true≢false, eq-eqb}
+use Rattle.std.proofs.Common.{◌≡◌, ◌≢◌, ◌≤◌, ◌<◌, ◌+◌, ◌⊎◌, ℕ, zero, suc, Bool, true, false, List, ◌++◌, ◌∷◌, [], length, set, arith, sym, ◌∙◌, ap, subst, refl, slice_index_or, Some, None, inl, inr, Vec, Global, true≢false, eq-eqb}
 use Rattle.std.specs.Prelude.{nat_eq, nat_lt, filter, cond, not, ◌||◌, if◌then◌else◌, position, unwrap_or, Result, Ok, Err, OnOk, OnErr}
 use Rattle.std.specs.List.{list_any, position_or_len}
 use Rattle.std.proofs.lemmas.Bool.{eqb-true, ltb-false}
@@ -11,7 +11,7 @@ use Rattle.indexmap.specs.IndexSet.{insert_key}
 use Rattle.requests.specs.declared.request.Request.{Request}
 use Rattle.requests.specs.Numbered.{is_plain, is_for, from_last_plain, with_live, live_at}
 use Rattle.requests.specs.Indexed.{items_of, list_at, place_of, listed_at, IsSpared}
-use Rattle.requests.proofs.Lists.{by_test, slice_get-left, slice_get-set, slice_get-set-other}
+use Rattle.requests.proofs.Lists.{by_test, slice_get-set, slice_get-set-other}
 
 pub nat_eq-self : (n : ℕ) → nat_eq n n ≡ true
 nat_eq-self n = eq-eqb n n refl

@@ -1,5 +1,5 @@
 -- The match of a number is the last live request that allows the turn and the word, and stands for the match of its tree.
-use Rattle.std.proofs.Common.{◌≡◌, ◌<◌, ◌+◌, ◌↔◌, ◌∙◌, ℕ, Bool, true, false, List, map, ◌++◌, ◌∷◌, [], All, length, take, arith, sym, ap, subst, refl, Option, Some, None, slice_index_or, true≢false}
+use Rattle.std.proofs.Common.{◌≡◌, ◌<◌, ◌+◌, ◌∙◌, ℕ, Bool, true, false, List, map, ◌++◌, ◌∷◌, [], All, length, take, arith, sym, ap, subst, refl, Option, Some, None, slice_index_or, true≢false}
 use Rattle.std.specs.Prelude.{nat_eq, filter, ◌||◌, ◌&&◌, if◌then◌else◌, is_none, IsTrue}
 use Rattle.std.specs.List.{list_any, last_or}
 use Rattle.std.specs.Option.{option_map}
@@ -12,11 +12,9 @@ use Rattle.location_words.specs.declared.pair.Pair.{Pair}
 use Rattle.location_words.specs.declared.table.WordId.{WordId}
 use Rattle.location_words.specs.Pairs.{pairs_eq}
 use Rattle.location_words.specs.Laws.{TestTells}
-use Rattle.expansion_laws.specs.Trees.{Tree}
-use Rattle.expansion_laws.specs.Contexts.{Context}
-use Rattle.expansion_laws.specs.Requests.{Request as TreeRequest, is_for as is_for_tree, allows, allows_word, allows_turn, fits, match_of}
+use Rattle.expansion_laws.specs.Requests.{allows_word, allows_turn, fits, match_of}
 use Rattle.shape_pool.specs.Rows.{Row, tree_at}
-use Rattle.shape_pool.specs.Laws.{IsSound, TellsBelow}
+use Rattle.shape_pool.specs.Laws.{IsSound}
 use Rattle.requests.specs.declared.request.Request.{Request}
 use Rattle.requests.specs.Numbered.{Table, is_plain, is_for, allows_place, allows_at, last_allowed, match_at, from_last_plain, live_at, AreHeldIn, IsHeldIn}
 use Rattle.requests.specs.Readings.{IsReading, IsPlaceBelow, place_by, request_by, requests_by}

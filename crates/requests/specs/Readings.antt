@@ -1,15 +1,14 @@
 -- What numbers stand for: the requests and the rule of a table are those of a step among trees.
-use Rattle.std.specs.Prelude.{◌≡◌, ◌↔◌, ℕ, ◌<◌, Bool, List, [], ◌++◌, All, map, length, ◌∷◌, Option, None, Some, if◌then◌else◌}
+use Rattle.std.specs.Prelude.{◌≡◌, ◌↔◌, ℕ, ◌<◌, List, [], ◌++◌, All, map, length, ◌∷◌, Option, None, Some, if◌then◌else◌}
 use Rattle.std.specs.List.{flat_map, list_any}
 use Rattle.std.specs.Option.{option_map}
 use Rattle.orientation.specs.declared.turn.Turn.{Turn}
-use Rattle.expansion_laws.specs.Contexts.{Context}
 use Rattle.orientation.specs.declared.kind.Kind.{Kind}
 use Rattle.orientation.specs.Kinds.{kind_eq}
 use Rattle.orientation.specs.Rules.{is_above}
 use Rattle.location_words.specs.declared.pair.Pair.{Pair}
 use Rattle.location_words.specs.declared.table.WordId.{WordId}
-use Rattle.expansion_laws.specs.Trees.{Tree, origin}
+use Rattle.expansion_laws.specs.Trees.{origin}
 use Rattle.expansion_laws.specs.Requests.{Act as TreeAct, Request as TreeRequest, remove, replace, live_requests, match_of}
 use Rattle.expansion_laws.specs.Steps.{Step}
 use Rattle.expansion_laws.specs.Graph.{FitsBy, edges}
