@@ -1,5 +1,6 @@
 -- A plan has each node once, and is one of its step.
-use Rattle.std.proofs.Common.{◌≡◌, ◌<◌, ℕ, zero, suc, Bool, List, map, ◌∷◌, [], Contains, length, arith, sym, ◌∙◌, ap, subst, take, slice_index_or, inl, inr, reverse, nat_eq, ◌++◌}
+use Rattle.std.proofs.Common.{◌≡◌, ◌<◌, ℕ, zero, suc, Bool, List, map, ◌∷◌, [], Contains, length, arith, sym, ◌∙◌, ap}
+use Rattle.std.proofs.Common.{subst, take, slice_index_or, inl, inr, reverse, nat_eq, ◌++◌}
 use Rattle.std.specs.Prelude.{if◌then◌else◌, drop, position, IfSome, Option, None, Some, slice_get}
 use Rattle.std.specs.List.{list_any}
 use Rattle.std.proofs.lemmas.Bool.{eqb-true}
@@ -9,7 +10,8 @@ use Rattle.std.proofs.lemmas.Option.{slice_get-get_or}
 use Rattle.std.proofs.lemmas.List.Elements.{All-contains, Contains-get_or}
 use Rattle.lists.specs.Distinct.{IsDistinct}
 use Rattle.lists.proofs.Distinct.{IsDistinct-push}
-use Rattle.lists.proofs.Members.{Contains-cases, Contains-here, Contains-there, Contains-map, Contains-map_cases, Contains-none, Contains-reversed, reverse-cons}
+use Rattle.lists.proofs.Members.{Contains-cases, Contains-here, Contains-there, Contains-map, Contains-map_cases}
+use Rattle.lists.proofs.Members.{Contains-none, Contains-reversed, reverse-cons}
 use Rattle.lists.proofs.Tests.{list_any-found}
 use Rattle.indexmap.specs.IndexSet.{insert_key}
 use Rattle.graph_walks.specs.Graph.{ends_of}

@@ -1,5 +1,6 @@
 -- One end more, and one node more that is gone through.
-use Rattle.std.proofs.Common.{◌≡◌, ◌<◌, ◌≤◌, ◌+◌, ℕ, zero, suc, Bool, true, List, map, ◌++◌, ◌∷◌, [], All, Contains, length, arith, refl, sym, ◌∙◌, ap, subst, Some, slice_get, nat_eq}
+use Rattle.std.proofs.Common.{◌≡◌, ◌<◌, ◌≤◌, ◌+◌, ℕ, zero, suc, Bool, true, List, map, ◌++◌, ◌∷◌, [], All, Contains}
+use Rattle.std.proofs.Common.{length, arith, refl, sym, ◌∙◌, ap, subst, Some, slice_get, nat_eq}
 use Rattle.std.specs.Prelude.{if◌then◌else◌}
 use Rattle.std.proofs.lemmas.Bool.{eqb-true}
 use Rattle.std.specs.List.{list_any, range_with_len}

@@ -1,23 +1,27 @@
 -- What is found over places is found over trees.
-use Rattle.std.proofs.Common.{◌≡◌, ◌<◌, ◌≤◌, ℕ, Bool, true, false, List, map, ◌∷◌, [], All, Contains, length, arith, refl, sym, ◌∙◌, ap, subst, reverse}
+use Rattle.std.proofs.Common.{◌≡◌, ◌<◌, ◌≤◌, ℕ, Bool, true, false, List, map, ◌∷◌, [], All, Contains, length, arith}
+use Rattle.std.proofs.Common.{refl, sym, ◌∙◌, ap, subst, reverse}
 use Rattle.std.specs.Prelude.{◌↔◌, ◌||◌, nat_lt, is_some, IsTrue, Option, None, Some}
 use Rattle.std.specs.List.{list_any}
 use Rattle.std.proofs.lemmas.Bool.{lt-ltb, ltb-true}
 use Rattle.std.proofs.lemmas.List.{get_or-map}
 use Rattle.std.proofs.lemmas.List.Elements.{All-contains}
 use Rattle.lists.proofs.Each.{All-from_members}
-use Rattle.lists.proofs.Members.{Contains-map, Contains-map_cases, Contains-reverse, Contains-reversed, map-map, map-reverse}
+use Rattle.lists.proofs.Members.{Contains-map, Contains-map_cases, Contains-reverse, Contains-reversed, map-map}
+use Rattle.lists.proofs.Members.{map-reverse}
 use Rattle.orientation.specs.declared.kind.Kind.{Kind}
 use Rattle.location_words.specs.declared.pair.Pair.{Pair}
 use Rattle.location_words.specs.declared.table.WordId.{WordId}
 use Rattle.graph_walks.specs.Graph.{ends_of}
 use Rattle.graph_walks.specs.Marks.{is_marked, ReachesMarked}
 use Rattle.graph_walks.specs.Search.{IsCycleFrom, IsOrderFrom}
-use Rattle.graph_walks.specs.Walks.{Reaches as WalksReach, itself, along, IsRank as IsRankOfWalks, IsFinishOrder, StandsFor, Carries, WalksAreDetermined}
+use Rattle.graph_walks.specs.Walks.{Reaches as WalksReach, itself, along, IsRank as IsRankOfWalks, IsFinishOrder}
+use Rattle.graph_walks.specs.Walks.{StandsFor, Carries, WalksAreDetermined}
 use Rattle.expansion_laws.specs.Trees.{Tree, origin}
 use Rattle.expansion_laws.specs.Requests.{Request as TreeRequest}
 use Rattle.expansion_laws.specs.Steps.{Step}
-use Rattle.expansion_laws.specs.Graph.{edges, Reaches, HasCycle, IsRank, IsFirstCycle, NumbersCarry, NumbersCarrySearches, TellsTrees, CarriesSearches}
+use Rattle.expansion_laws.specs.Graph.{edges, Reaches, HasCycle, IsRank, IsFirstCycle, NumbersCarry}
+use Rattle.expansion_laws.specs.Graph.{NumbersCarrySearches, TellsTrees, CarriesSearches}
 use Rattle.expansion_laws.specs.Keys.{asks_place, asks_turn, ReachesPlace, ReachesTurn}
 use Rattle.shape_pool.specs.Rows.{Row, origin_at, tree_at}
 use Rattle.shape_pool.specs.Laws.{IsSound}
@@ -27,7 +31,8 @@ use Rattle.requests.specs.declared.asking.Part.{Part}
 use Rattle.requests.specs.Numbered.{Table, live_at, AreHeldIn}
 use Rattle.requests.specs.Readings.{IsReading, StandsForStep, place_by, requests_by, step_by}
 use Rattle.requests.specs.Reached.{met_at, IsReached}
-use Rattle.requests.specs.Plans.{asks, asked, ids_of, most_rank, planned_at, PlannedNode, StepPlan, ArePlanned, InReadings, IsCycleBy, IsPlan, IsPlannedBy, IsRankPast}
+use Rattle.requests.specs.Plans.{asks, asked, ids_of, most_rank, planned_at, PlannedNode, StepPlan, ArePlanned}
+use Rattle.requests.specs.Plans.{InReadings, IsCycleBy, IsPlan, IsPlannedBy, IsRankPast}
 use Rattle.requests.proofs.EdgeLaws.{origin-is}
 use Rattle.requests.proofs.ReachedLaws.{ends-within, places-told}
 

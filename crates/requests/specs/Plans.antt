@@ -33,8 +33,8 @@ has_part Turn r = is_some r.turn
 abbrev pub asks : Part → List Request → Bool
 asks part rs = list_any (has_part part) rs
 
--- a node of a plan: its number, its live requests, and whether the graph reaches from it, itself included, a node with a live
--- request that has a place, and one that has a turn
+-- a node of a plan: its number, its live requests, and whether the graph reaches from it, itself included, a node with
+-- a live request that has a place, and one that has a turn
 pub record PlannedNode : Type 0 where
   pub id : ℕ
   pub live : List Request
@@ -58,8 +58,8 @@ InReadings rows t P =
     (kind : ℕ → Kind) (word : ℕ → List Pair) (n : ℕ) → IsReading rows t.requests kind word n →
     P (step_by word rows kind t) (tree_at word rows)
 
--- The nodes are those that the graph reaches from the root, each once and after all that it reaches, and what is told of their
--- reach is so.
+-- The nodes are those that the graph reaches from the root, each once and after all that it reaches, and what is told
+-- of their reach is so.
 pub record ArePlanned (nodes : List PlannedNode) (root : ℕ) (s : Step) (tree : ℕ → Tree) : Type 0 where
   pub finishes : IsFinishOrder (edges s) (reverse (map tree (ids_of nodes)))
   pub reached : (x : Tree) → Contains (map tree (ids_of nodes)) x ↔ Reaches s (tree root) x
@@ -112,7 +112,8 @@ TellReach own graph order marks =
     (p : ℕ) → Contains order p → IsTrue (is_marked marks p) ↔ ReachesMarked (ends_of graph) own p
 
 -- a plan by such marks
-pub record IsPlannedBy (t : Table) (met : List ℕ) (graph : List (List ℕ)) (order : List ℕ) (plan : StepPlan) : Type 0 where
+pub record IsPlannedBy (t : Table) (met : List ℕ) (graph : List (List ℕ)) (order : List ℕ) (plan : StepPlan) :
+    Type 0 where
   pub places : List Bool
   pub turns : List Bool
   pub by_marks : plan ≡ a_plan (map (planned_at t.requests met places turns) order) t.rule

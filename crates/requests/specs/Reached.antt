@@ -15,8 +15,10 @@ pub record AreMet (n : ℕ) (met : List ℕ) : Type 0 where
   pub distinct : IsDistinct met
   pub held : All (λ x. x < n) met
 
--- The graph has one node more, with edges to these ends: their places are those of the numbers that were met, and of some more.
-pub record HasOneMore (n : ℕ) (ends met : List ℕ) (graph : List (List ℕ)) (met' : List ℕ) (graph' : List (List ℕ)) : Type 0 where
+-- The graph has one node more, with edges to these ends: their places are those of the numbers that were met, and of
+-- some more.
+pub record HasOneMore (n : ℕ) (ends met : List ℕ) (graph : List (List ℕ)) (met' : List ℕ) (graph' : List (List ℕ)) :
+    Type 0 where
   pub places : List ℕ
   pub added : graph' ≡ graph ++ places ∷ []
   pub named : map (met_at met') places ≡ ends

@@ -77,8 +77,8 @@ fn push_all_targets(
     Ok(())
 }
 
-/// Lists the ends of the edges from a node, in order: those of its live requests, and then, unless one of these is unconditional
-/// or the node isn't entered, those to its own uses.
+/// Lists the ends of the edges from a node, in order: those of its live requests, and then, unless one of these is
+/// unconditional or the node isn't entered, those to its own uses.
 pub(crate) fn list_ends(
     table: &RequestTable,
     pool: &Pool,

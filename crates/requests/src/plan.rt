@@ -26,9 +26,9 @@ struct Planned {
     turn: bool,
 }
 
-/// What a step goes by: the nodes that its graph reaches from the root, each after all that it reaches, so that the root is the
-/// last; of each node its live requests, and whether the graph reaches from it, itself included, a node with a live request that
-/// has a place, and one that has a turn; and the rule of the step.
+/// What a step goes by: the nodes that its graph reaches from the root, each after all that it reaches, so that the
+/// root is the last; of each node its live requests, and whether the graph reaches from it, itself included, a node
+/// with a live request that has a place, and one that has a turn; and the rule of the step.
 ///
 /// Nodes have places in it, counted from 0 in the order of finishing.
 #[derive(Drop)]
@@ -105,10 +105,12 @@ impl Plan {
         self.ids.get_index_of(&id.0)
     }
 
-    /// The match of occurrences of the node at a place, under a turn and the number of a word: the last live request that allows them.
+    /// The match of occurrences of the node at a place, under a turn and the number of a word: the last live request
+    /// that allows them.
     pub fn find(&self, at: usize, turn: Turn, word: WordId) -> Option<Request>
         requires { at < length self.now.nodes }
-        ensures live { (p : PlannedNode) → slice_get self.now.nodes at ≡ Some p → result ≡ last_allowed p.live turn word.0 }
+        ensures live { (p : PlannedNode) → slice_get self.now.nodes at ≡ Some p
+            → result ≡ last_allowed p.live turn word.0 }
         ensures matched { (p : PlannedNode) (given : List SpecRequest) → slice_get self.now.nodes at ≡ Some p
             → p.live ≡ live_at given p.id → result ≡ match_at given p.id turn word.0 }
     {

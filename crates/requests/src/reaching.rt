@@ -10,7 +10,8 @@ use crate::table::RequestTable;
 use graph_walks::mark_reaching;
 use std::alloc::AllocError;
 
-/// Marks for the places of an order of finishing: whether the graph reaches from there a node with a live request that has the part.
+/// Marks for the places of an order of finishing: whether the graph reaches from there a node with a live request that
+/// has the part.
 pub(crate) fn reaching(
     table: &RequestTable,
     reached: &Reached,

@@ -1,5 +1,6 @@
 -- One node more.
-use Rattle.std.proofs.Common.{◌≡◌, ◌∙◌, ◌+◌, ◌++◌, ◌∷◌, [], false, refl, ap, sym, take, map, slice_index_or, nat_eq, ℕ, List}
+use Rattle.std.proofs.Common.{◌≡◌, ◌∙◌, ◌+◌, ◌++◌, ◌∷◌, [], false, refl, ap, sym, take, map, slice_index_or, nat_eq}
+use Rattle.std.proofs.Common.{ℕ, List}
 use Rattle.std.proofs.lemmas.List.{map-append, take_more}
 use Rattle.lists.proofs.Members.{map-map}
 use Rattle.indexmap.specs.IndexSet.{insert_key}
