@@ -1,32 +1,32 @@
 -- Live requests and edges among numbers stand for those among trees.
-use Rattle.std.proofs.Common.{◌≡◌, ◌≢◌, ◌<◌, ◌⊎◌, ◌↔◌, ◌∙◌, ℕ, zero, suc, Bool, true, false, List, map, ◌++◌, ◌∷◌}
-use Rattle.std.proofs.Common.{[], All, length, arith, sym, ap, subst, refl, Option, Some, None, inl, inr, true≢false}
-use Rattle.std.specs.Prelude.{nat_eq, filter, ◌||◌, ◌&&◌, if◌then◌else◌, is_none, Contains}
+use Rattle.std.proofs.Common.{◌≡◌, ◌<◌, ◌↔◌, ◌∙◌, ℕ, Bool, true, false, List, map, ◌++◌, ◌∷◌}
+use Rattle.std.proofs.Common.{[], length, arith, sym, ap, subst, refl, Option, Some, None}
+use Rattle.std.specs.Prelude.{nat_eq, filter, ◌||◌, ◌&&◌, if◌then◌else◌, is_none}
 use Rattle.std.specs.List.{list_any, flat_map}
 use Rattle.std.proofs.lemmas.Bool.{eqb-true}
-use Rattle.std.proofs.lemmas.List.{map-append, length-map}
+use Rattle.std.proofs.lemmas.List.{map-append}
 use Rattle.orientation.specs.declared.kind.Kind.{Kind}
 use Rattle.orientation.specs.Kinds.{kind_eq}
 use Rattle.orientation.specs.Rules.{is_above}
 use Rattle.location_words.specs.declared.pair.Pair.{Pair}
 use Rattle.location_words.specs.declared.table.WordId.{WordId}
-use Rattle.expansion_laws.specs.Trees.{Tree, Use, origin, uses, uses_of, list_of, tree_of}
+use Rattle.expansion_laws.specs.Trees.{Tree, Use, origin, uses, uses_of, list_of}
 use Rattle.expansion_laws.specs.Equality.{tree_eq}
 use Rattle.expansion_laws.specs.Requests.{Request as TreeRequest, is_for as is_for_tree, is_unconditional}
 use Rattle.expansion_laws.specs.Requests.{from_last_unconditional, requests_for, live_requests}
-use Rattle.expansion_laws.specs.Steps.{Step, kind as kind_of_tree, entered}
+use Rattle.expansion_laws.specs.Steps.{entered}
 use Rattle.expansion_laws.specs.Graph.{children, trees_of, targets, edges}
 use Rattle.shape_pool.specs.declared.node.UseOf.{UseOf}
 use Rattle.shape_pool.specs.Rows.{Row, kind_at, origin_at, uses_at, use_by, tree_at}
-use Rattle.shape_pool.specs.Laws.{TreesOfUses, IdsTellTrees, ids_used, IsSound}
+use Rattle.shape_pool.specs.Laws.{ids_used, IsSound}
 use Rattle.requests.specs.declared.request.Request.{Request}
 use Rattle.requests.specs.declared.request.Act.{Act}
 use Rattle.requests.specs.declared.request.Act.TheVariants.{Remove, Replace}
 use Rattle.requests.specs.Numbered.{Table, is_plain, is_for, from_last_plain, live_at, AreHeldIn, IsHeldIn, ActIsHeldIn}
-use Rattle.requests.specs.Readings.{IsReading, HaveKinds, place_by, act_by, request_by}
-use Rattle.requests.specs.Readings.{requests_by, step_by, targets_at, ends_at, StandsForStep}
-use Rattle.requests.proofs.Lists.{by_test, All-rest, All-from, All-none}
-use Rattle.requests.proofs.LiveLaws.{nat_eq-self, nat_eq-other}
+use Rattle.requests.specs.Readings.{IsReading, place_by, act_by, request_by, requests_by, step_by, targets_at, ends_at}
+use Rattle.requests.proofs.Lists.{by_test, All-rest}
+use Rattle.requests.proofs.LiveLaws.{nat_eq-self}
+use Rattle.requests.proofs.HeldLaws.{held-live}
 
 abbrev pub TreesAreTold : Type 0
 TreesAreTold = (x y : Tree) → (tree_eq x y ≡ true) ↔ (x ≡ y)
@@ -134,8 +134,7 @@ module _ (rows : List Row) (word : ℕ → List Pair) (sound : IsSound rows) whe
           live_requests (requests_by word rows t.requests) (tree_at word rows i) ≡
           requests_by word rows (live_at t.requests i)
       live-are i h all =
-          ap from_last_unconditional (requests_for-are i t.requests h all) ∙
-          from_last-are (filter (is_for i) t.requests)
+          ap from_last_unconditional (requests_for-are i t.requests h all) ∙ from_last-are (filter (is_for i) t.requests)
 
       kind-is : (i : ℕ) → i < length rows → kind (origin (tree_at word rows i)) ≡ kind_at rows i
       kind-is i h = ap kind (origin-is i h) ∙ reading.kinds i h
@@ -177,27 +176,6 @@ module _ (rows : List Row) (word : ℕ → List Pair) (sound : IsSound rows) whe
           sym (map-append (tree_at word rows) (targets_at rows i r.act)
           (flat_map (λ (q : Request). targets_at rows i q.act) rs))
 
-      held-filter : (i : ℕ) (rs : List Request) → AreHeldIn rows rs → AreHeldIn rows (filter (is_for i) rs)
-      held-filter i [] all = all
-      held-filter i (r ∷ rs) all = go (is_for i r) (held-filter i rs (All-rest (IsHeldIn rows) r rs all))
-        where
-          go : (b : Bool) → AreHeldIn rows (filter (is_for i) rs) →
-              AreHeldIn rows (if b then r ∷ filter (is_for i) rs else filter (is_for i) rs)
-          go true rest = All-from (IsHeldIn rows) r (filter (is_for i) rs) (all 0 r (omega arith)) rest
-          go false rest = rest
-
-      held-last : (rs : List Request) → AreHeldIn rows rs → AreHeldIn rows (from_last_plain rs)
-      held-last [] all = all
-      held-last (r ∷ rs) all = go (list_any is_plain rs) (held-last rs (All-rest (IsHeldIn rows) r rs all))
-        where
-          go : (b : Bool) → AreHeldIn rows (from_last_plain rs) →
-              AreHeldIn rows (if b then from_last_plain rs else r ∷ rs)
-          go true rest = rest
-          go false rest = all
-
-      pub held-live : (i : ℕ) → AreHeldIn rows t.requests → AreHeldIn rows (live_at t.requests i)
-      held-live i all = held-last (filter (is_for i) t.requests) (held-filter i t.requests all)
-
       any-last : (rs : List Request) → list_any is_plain (from_last_plain rs) ≡ list_any is_plain rs
       any-last [] = refl
       any-last (r ∷ rs) = go (list_any is_plain rs) (is_plain r) (any-last rs)
@@ -217,7 +195,7 @@ module _ (rows : List Row) (word : ℕ → List Pair) (sound : IsSound rows) whe
           (λ (l : List TreeRequest).
           flat_map (λ (r : TreeRequest). targets (step_by word rows kind t) (tree_at word rows i) r.act) l ++ own)
           (live-are i h all) ∙
-          ap (λ (l : List Tree). l ++ own) (all-targets i (live_at t.requests i) h (held-live i all)) ∙
+          ap (λ (l : List Tree). l ++ own) (all-targets i (live_at t.requests i) h (held-live rows t.requests i all)) ∙
           ap (λ (l : List Tree). map (tree_at word rows) first ++ l) own-are ∙
           sym (map-append (tree_at word rows) first last)
         where

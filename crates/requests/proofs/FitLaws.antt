@@ -1,5 +1,5 @@
 -- Whether a target fits a source, by numbers.
-use Rattle.std.proofs.Common.{◌≡◌, ◌<◌, ◌↔◌, ℕ, Bool, true, false, List, All, length, arith, sym, ap, inl, inr, refl}
+use Rattle.std.proofs.Common.{◌≡◌, ◌<◌, ◌↔◌, ℕ, Bool, true, false, List, All, length, arith, ap, inl, inr, refl}
 use Rattle.std.specs.Prelude.{IsTrue, not}
 use Rattle.orientation.specs.Kinds.{rank_of}
 use Rattle.shape_pool.specs.Rows.{Row, kind_at}

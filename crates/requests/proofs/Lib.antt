@@ -3,6 +3,11 @@ pub mod LiveLaws
 pub mod UseLaws
 pub mod FitLaws
 pub mod TreeFitLaws
+pub mod HeldLaws
+pub mod EndLaws
 pub mod EdgeLaws
 pub mod MatchLaws
 pub mod StepLaws
+pub mod ReachedLaws
+pub mod PlanLaws
+pub mod TreeWalks

@@ -3,7 +3,6 @@ use Rattle.std.proofs.Common.{◌≡◌, ◌≢◌, ◌≤◌, ◌<◌, ◌+◌,
 use Rattle.std.proofs.Common.{◌++◌, ◌∷◌, [], All, Contains, length, take, set, arith, sym, ◌∙◌, ap}
 use Rattle.std.proofs.Common.{subst, refl, slice_get, slice_index_or, Option, Some, None, inl, inr}
 use Rattle.std.specs.Prelude.{unwrap_or}
-use Rattle.std.proofs.lemmas.Option.{slice_get_within, slice_get_past, slice_get-get_or}
 
 -- by the two values of a test
 abbrev pub by_test : {P : Type 0} (b : Bool) → (b ≡ true → P) → (b ≡ false → P) → P

@@ -14,7 +14,7 @@ use Rattle.indexmap.specs.IndexSet.{insert_key}
 use Rattle.requests.specs.declared.request.Request.{Request}
 use Rattle.requests.specs.Numbered.{is_plain, is_for, from_last_plain, with_live, live_at}
 use Rattle.requests.specs.Indexed.{items_of, list_at, place_of, listed_at, IsSpared}
-use Rattle.requests.proofs.Lists.{by_test, slice_get-left, slice_get-set, slice_get-set-other}
+use Rattle.requests.proofs.Lists.{by_test, slice_get-set, slice_get-set-other}
 
 pub nat_eq-self : (n : ℕ) → nat_eq n n ≡ true
 nat_eq-self n = eq-eqb n n refl

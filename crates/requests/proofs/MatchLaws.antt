@@ -19,7 +19,7 @@ use Rattle.expansion_laws.specs.Contexts.{Context}
 use Rattle.expansion_laws.specs.Requests.{Request as TreeRequest, is_for as is_for_tree}
 use Rattle.expansion_laws.specs.Requests.{allows, allows_word, allows_turn, fits, match_of}
 use Rattle.shape_pool.specs.Rows.{Row, tree_at}
-use Rattle.shape_pool.specs.Laws.{IsSound, TellsBelow}
+use Rattle.shape_pool.specs.Laws.{IsSound}
 use Rattle.requests.specs.declared.request.Request.{Request}
 use Rattle.requests.specs.Numbered.{Table, is_plain, is_for, allows_place, allows_at, last_allowed}
 use Rattle.requests.specs.Numbered.{match_at, from_last_plain, live_at, AreHeldIn, IsHeldIn}

@@ -5,14 +5,14 @@ use Rattle.std.proofs.lemmas.List.{length-map}
 use Rattle.orientation.specs.declared.kind.Kind.{Kind}
 use Rattle.orientation.specs.Kinds.{rank_of}
 use Rattle.location_words.specs.declared.pair.Pair.{Pair}
-use Rattle.expansion_laws.specs.Trees.{Tree, Use, origin, uses}
-use Rattle.expansion_laws.specs.Graph.{children, FitsBy}
+use Rattle.expansion_laws.specs.Trees.{Tree, origin, uses}
+use Rattle.expansion_laws.specs.Graph.{children}
 use Rattle.shape_pool.specs.declared.node.UseOf.{UseOf}
 use Rattle.shape_pool.specs.Rows.{Row, kind_at, uses_at, use_by, tree_at}
 use Rattle.shape_pool.specs.Laws.{ids_used, IsSound}
 use Rattle.requests.specs.declared.request.Act.{Act}
 use Rattle.requests.specs.declared.request.Act.TheVariants.{Remove, Replace}
-use Rattle.requests.specs.Numbered.{FitsAt, ActFits, ActIsHeldIn}
+use Rattle.requests.specs.Numbered.{ActFits, ActIsHeldIn}
 use Rattle.requests.specs.Readings.{HaveKinds, TargetFits}
 use Rattle.requests.proofs.Lists.{All-from, All-none, All-rest}
 use Rattle.requests.proofs.EdgeLaws.{uses-are, origin-is, children-are}

@@ -1,5 +1,5 @@
 -- The numbers that uses name.
-use Rattle.std.proofs.Common.{◌≡◌, ◌<◌, ℕ, List, map, All, length, sym, subst, slice_get, Some}
+use Rattle.std.proofs.Common.{◌≡◌, ◌<◌, ℕ, List, map, All, subst, slice_get, Some}
 use Rattle.shape_pool.specs.declared.node.UseOf.{UseOf}
 use Rattle.shape_pool.specs.declared.node.NodeUse.{NodeUse}
 use Rattle.shape_pool.specs.Nodes.{by_number, node_id, used_node}

@@ -1,6 +1,6 @@
 -- Requests by numbers: of the nodes of a pool and of words.
 use Rattle.std.specs.Prelude.{◌≡◌, ℕ, ◌<◌, ◌⊎◌, ◌&&◌, Bool, if◌then◌else◌, nat_eq, is_none, List}
-use Rattle.std.specs.Prelude.{[], ◌∷◌, ◌++◌, All, filter, length, true, Option, None, Some}
+use Rattle.std.specs.Prelude.{[], ◌∷◌, ◌++◌, All, filter, length, true, false, Option, None, Some}
 use Rattle.std.specs.List.{last_or, list_any}
 use Rattle.orientation.specs.declared.turn.Turn.{Turn}
 use Rattle.location_words.specs.declared.table.WordId.{WordId}
@@ -24,6 +24,11 @@ a_table rs rule = record { requests = rs; rule = rule }
 -- whether a request has neither a place nor a turn
 abbrev pub is_plain : Request → Bool
 is_plain r = is_none r.place && is_none r.turn
+
+-- whether the first request is such a one, as it is among live requests where any is
+abbrev pub starts_plain : List Request → Bool
+starts_plain [] = false
+starts_plain (r ∷ rs) = is_plain r
 
 -- whether a request is for a number
 abbrev pub is_for : ℕ → Request → Bool

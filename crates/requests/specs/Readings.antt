@@ -4,7 +4,6 @@ use Rattle.std.specs.Prelude.{length, ◌∷◌, Option, None, Some, if◌then�
 use Rattle.std.specs.List.{flat_map, list_any}
 use Rattle.std.specs.Option.{option_map}
 use Rattle.orientation.specs.declared.turn.Turn.{Turn}
-use Rattle.expansion_laws.specs.Contexts.{Context}
 use Rattle.orientation.specs.declared.kind.Kind.{Kind}
 use Rattle.orientation.specs.Kinds.{kind_eq}
 use Rattle.orientation.specs.Rules.{is_above}

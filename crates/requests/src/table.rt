@@ -91,6 +91,18 @@ impl RequestTable {
         }
     }
 
+    /// The rule of the step.
+    pub fn rule(&self) -> Rule
+        ensures { result ≡ self.now.rule }
+    {
+        self.rule
+    }
+
+    /// What gives memory.
+    pub(crate) fn allocator(&self) -> Global {
+        *self.given.allocator()
+    }
+
     /// The live requests of a node, in the order given.
     pub fn live(&self, id: NodeId) -> &[Request]
         ensures { result.now ≡ live_at self.now.requests id.0 }
