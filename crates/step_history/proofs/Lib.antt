@@ -4,3 +4,11 @@ pub mod CompositionLemmas
 pub mod StandingLemmas
 pub mod ExampleLemmas
 pub mod RowExampleLemmas
+pub mod WalkLaws
+pub mod UseLaws
+pub mod MetLaws
+pub mod GatherLaws
+pub mod SortLaws
+pub mod MadeLaws
+pub mod StepLaws
+pub mod TellLaws

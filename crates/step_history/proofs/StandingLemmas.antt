@@ -1,6 +1,6 @@
 -- The pairs of a history stand in the first root and in the last.
 use Rattle.std.proofs.Common.{◌≡◌, sym, ap, subst, inl, inr, ◌∙◌}
-use Rattle.std.specs.Prelude.{false, None, Some, List, [], ◌∷◌, if◌then◌else◌}
+use Rattle.std.specs.Prelude.{false, None, List, [], ◌∷◌, if◌then◌else◌}
 use Rattle.lists.proofs.Members.{Contains-here, Contains-map_cases, Contains-none}
 use Rattle.location_words.specs.Pairs.{IsWord}
 use Rattle.location_words.specs.Laws.{WordsAreAGroup}

@@ -1,0 +1,3 @@
+pub mod GatherLaws
+pub mod StartLaws
+pub mod ComposeLaws
