@@ -4,6 +4,7 @@ pub mod LineLaws
 pub mod PartLaws
 pub mod PartSteps
 pub mod ReadingLaws
+pub mod Rises
 pub mod SectionLaws
 pub mod SendingLaws
 pub mod Spans

@@ -1,5 +1,5 @@
 -- A text is read as the history that it spells.
-use Rattle.std.proofs.Common.{◌≡◌, ℕ, ◌+◌, ◌<◌, inl, inr, false, ◌==◌, List, [], ◌∷◌, ◌++◌, length, take, map, Some, Result, Ok, Err, refl, sym, ap, subst, ◌∙◌, append_assoc, arith}
+use Rattle.std.proofs.Common.{◌≡◌, ℕ, ◌+◌, ◌<◌, ◌≤◌, inl, inr, Bool, true, false, ◌==◌, if◌then◌else◌, List, [], ◌∷◌, ◌++◌, length, take, map, Some, Result, Ok, Err, refl, sym, ap, subst, ◌∙◌, append_assoc, arith}
 use Rattle.std.specs.Prelude.{codes}
 use Rattle.std.specs.List.{AllByRecursion}
 use Rattle.std.proofs.lemmas.Bool.{eqb-true}
@@ -10,8 +10,8 @@ use Rattle.brep_tokens.specs.Written.{lines_text}
 use Rattle.lists.specs.Results.{◌>>=◌}
 use Rattle.lists.proofs.Results.{bind_ok, guard_ok, ok_is}
 use Rattle.history_text.specs.HistoryText.{IsHistory, IsShort, history_lines, number_words, origin_lines, pair_words, section, text_of}
-use Rattle.history_text.specs.LineForms.{text_of_line}
-use Rattle.history_text.specs.Reading.{Left, alone, fault_of, first_that_disagrees, history_at, history_of, line_at, origins_at, pairs_at, removed_at, rest_at}
+use Rattle.history_text.specs.LineForms.{origin_due, pair_due, removed_due, text_of_line}
+use Rattle.history_text.specs.Reading.{Left, Read, alone, fault_of, first_that_disagrees, history_at, history_of, line_at, origins_at, pairs_at, removed_at, rest_at}
 use Rattle.history_text.specs.Spelled.{Answers, FaultsHaveTheirLine, Gives, SpellsHistory, SpellsNone, TextsSpellOneHistory}
 use Rattle.history_text.specs.declared.fault.HistoryFault.{HistoryFault}
 use Rattle.history_text.specs.declared.fault.HistoryFault.TheVariants.{NotHistory, NoMemory}
@@ -20,6 +20,7 @@ use Rattle.history_text.proofs.FormLaws.{text_again, text_there}
 use Rattle.history_text.proofs.LineCuts.{lacks_test}
 use Rattle.history_text.proofs.LineLaws.{first_part, generated_part, history_parts, last_part, modified_part, origins_part, removed_part}
 use Rattle.history_text.proofs.PartLaws.{origins_span, origins_there, pairs_span, pairs_there, removed_span, removed_there}
+use Rattle.history_text.proofs.Rises.{AtLeast, Rises, rises_line, rises_section, rises_then}
 use Rattle.history_text.proofs.SectionLaws.{left_at, line_there}
 use Rattle.history_text.proofs.Spans.{Spans, spans_line, spans_none, spans_then}
 
@@ -53,6 +54,14 @@ pub record IsRest (origins : List ℕ) (bytes : List ℕ) (h : HistoryFile) (res
   pub origins_are : h.origins ≡ origins
   pub sound : AllByRecursion IsShort h.origins → IsHistory h
   pub spelled : bytes ≡ rest_text h ++ rest
+
+later_alone : (b : Bool) (h : HistoryFile) (number line : ℕ) → fault_of (if b then Ok h else Err number) ≡ Some line → number ≡ line
+later_alone true h number line e = absurd cc
+later_alone false h number line e = cc
+
+later : (n : ℕ) (z : Read HistoryFile) (line : ℕ) → AtLeast n z → fault_of (z >>= alone) ≡ Some line → n ≤ line
+later n (Ok x) line is e = let at : x.1.number ≡ line = later_alone (length x.1.bytes == 0) x.0 x.1.number line e in omega (arith, is, at)
+later n (Err blamed) line is e = let at : blamed ≡ line = cc in omega (arith, is, at)
 
 module _ (forms : FormsAreExact) where
   rest_there : (origins : List ℕ) (old : Left) (h : HistoryFile) (left : Left) → IsShort (length origins) → rest_at origins old ≡ Ok (h, left) → IsRest origins old.bytes h left.bytes
@@ -93,6 +102,31 @@ module _ (forms : FormsAreExact) where
             ∙ sym (append_assoc first_part (origins_part h ++ rest_text h) left.bytes) ∙ ap (λ z. z ++ left.bytes) (sym (history_parts h)),
       )
 
+  end_rises : (os : List ℕ) (ms gs : List (ℕ × ℕ)) (rs : List ℕ) → Rises {A = Unit {0}} (λ end. Ok (file os ms gs rs, end.1))
+  end_rises os ms gs rs z = omega arith
+
+  removed_rises : (os : List ℕ) (ms gs : List (ℕ × ℕ)) → Rises {A = List ℕ} (λ removed. line_at (text_of_line (codes "end")) removed.1 >>= λ end. Ok (file os ms gs removed.0, end.1))
+  removed_rises os ms gs z = rises_then z.1.number (line_at (text_of_line (codes "end")) z.1) (λ end. Ok (file os ms gs z.0, end.1)) (rises_line (text_of_line (codes "end")) z.1) (end_rises os ms gs z.0)
+
+  generated_rises : (os : List ℕ) (ms : List (ℕ × ℕ))
+      → Rises {A = List (ℕ × ℕ)} (λ generated. removed_at generated.1 >>= λ removed. line_at (text_of_line (codes "end")) removed.1 >>= λ end. Ok (file os ms generated.0 removed.0, end.1))
+  generated_rises os ms z =
+      rises_then z.1.number (removed_at z.1) (λ removed. line_at (text_of_line (codes "end")) removed.1 >>= λ end. Ok (file os ms z.0 removed.0, end.1)) (rises_section (codes "removed") removed_due z.1) (removed_rises os ms z.0)
+
+  modified_rises : (os : List ℕ)
+      → Rises {A = List (ℕ × ℕ)} (λ modified. pairs_at (codes "generated") (length os) modified.1 >>= λ generated. removed_at generated.1 >>= λ removed. line_at (text_of_line (codes "end")) removed.1 >>= λ end. Ok (file os modified.0 generated.0 removed.0, end.1))
+  modified_rises os z =
+      rises_then z.1.number (pairs_at (codes "generated") (length os) z.1) (λ generated. removed_at generated.1 >>= λ removed. line_at (text_of_line (codes "end")) removed.1 >>= λ end. Ok (file os z.0 generated.0 removed.0, end.1))
+      (rises_section (codes "generated") (pair_due (length os)) z.1) (generated_rises os z.0)
+
+  origins_rises : Rises {A = List ℕ} (λ origins. rest_at origins.0 origins.1)
+  origins_rises z =
+      rises_then z.1.number (pairs_at (codes "modified") (length z.0) z.1) (λ modified. pairs_at (codes "generated") (length z.0) modified.1 >>= λ generated. removed_at generated.1 >>= λ removed. line_at (text_of_line (codes "end")) removed.1 >>= λ end. Ok (file z.0 modified.0 generated.0 removed.0, end.1))
+      (rises_section (codes "modified") (pair_due (length z.0)) z.1) (modified_rises z.0)
+
+  head_rises : Rises {A = Unit {0}} (λ head. origins_at head.1 >>= λ origins. rest_at origins.0 origins.1)
+  head_rises z = rises_then z.1.number (origins_at z.1) (λ origins. rest_at origins.0 origins.1) (rises_section (codes "records") origin_due z.1) origins_rises
+
   rest_spans : (h : HistoryFile) → IsHistory h → Spans (rest_at h.origins) (rest_lines h) h
   rest_spans h is =
       let n = length h.origins in
@@ -109,14 +143,15 @@ module _ (forms : FormsAreExact) where
       generated (removed ++ end_line) h.generated h two
       (spans_then removed_at (λ removed. line_at (text_of_line (codes "end")) removed.1 >>= λ end. Ok (file h.origins h.modified h.generated removed.0, end.1))
       removed end_line h.removed h three
-      (spans_then (line_at (text_of_line (codes "end"))) (λ end. Ok (file h.origins h.modified h.generated h.removed, end.1)) end_line [] tt h end (spans_none h))))
+      (spans_then (line_at (text_of_line (codes "end"))) (λ end. Ok (file h.origins h.modified h.generated h.removed, end.1)) end_line [] tt h end (spans_none h) (end_rises h.origins h.modified h.generated h.removed))
+      (removed_rises h.origins h.modified h.generated)) (generated_rises h.origins h.modified)) (modified_rises h.origins)
 
   history_spans : (h : HistoryFile) → IsHistory h → Spans history_at (history_lines h) h
   history_spans h is =
       let head = spans_line (text_of_line (codes "BREP-HISTORY 1")) (codes "BREP-HISTORY" ∷ codes "1" ∷ []) tt (lacks_test 10 (codes "BREP-HISTORY 1") refl) (text_again (codes "BREP-HISTORY 1")) in
       let records = section (codes "records") (origin_lines h.origins) in
       spans_then (line_at (text_of_line (codes "BREP-HISTORY 1"))) (λ head. origins_at head.1 >>= λ origins. rest_at origins.0 origins.1) ((codes "BREP-HISTORY" ∷ codes "1" ∷ []) ∷ []) (records ++ rest_lines h) tt h head
-      (spans_then origins_at (λ origins. rest_at origins.0 origins.1) records (rest_lines h) h.origins h (origins_span forms h.origins is.origins is.written) (rest_spans h is))
+      (spans_then origins_at (λ origins. rest_at origins.0 origins.1) records (rest_lines h) h.origins h (origins_span forms h.origins is.origins is.written) (rest_spans h is) origins_rises) head_rises
 
   read_there : (bytes : List ℕ) (h : HistoryFile) → history_of bytes ≡ Ok h → SpellsHistory bytes h
   unfolding history_of
@@ -154,8 +189,15 @@ module _ (forms : FormsAreExact) where
       let place : 1 + lines ≡ lines + 1 = omega arith in
       rw ((history_spans h is).short 1 lines some) (ap (λ (n : ℕ). Some n) place)
 
+  never_blamed : (h : HistoryFile) (lines : ℕ) (rest : List ℕ) (line : ℕ) → IsHistory h → lines ≤ length (history_lines h)
+      → first_that_disagrees (lines_text (take lines (history_lines h)) ++ rest) ≡ Some line → lines < line
+  unfolding history_of first_that_disagrees
+  never_blamed h lines rest line is le e =
+      let text = lines_text (take lines (history_lines h)) ++ rest in
+      omega (arith, later (1 + lines) (history_at (left_at 1 text)) line ((history_spans h is).front 1 lines rest le) e)
+
   pub faults_placed : FaultsHaveTheirLine
-  faults_placed = record { longer = goes_on; shorter = breaks_off }
+  faults_placed = record { longer = goes_on; shorter = breaks_off; front = never_blamed }
 
   none_disagrees : (bytes : List ℕ) (r : Result HistoryFile ℕ) → history_of bytes ≡ r → SpellsNone bytes → (line : ℕ) × (fault_of r ≡ Some line)
   none_disagrees bytes (Ok h) e none = absurd (none h (read_there bytes h e))
