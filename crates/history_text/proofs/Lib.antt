@@ -2,6 +2,7 @@ pub mod FormLaws
 pub mod LineCuts
 pub mod LineLaws
 pub mod PartLaws
+pub mod PartReaders
 pub mod PartSteps
 pub mod ReadingLaws
 pub mod Rises

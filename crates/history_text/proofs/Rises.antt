@@ -1,5 +1,5 @@
 -- A reader never goes back: it leaves, or blames, no line before the one that it begins at.
-use Rattle.std.proofs.Common.{◌≡◌, ℕ, zero, suc, ◌+◌, ◌≤◌, List, ◌∷◌, [], ◌++◌, Option, Some, None, Result, Ok, Err, arith}
+use Rattle.std.proofs.Common.{ℕ, zero, suc, ◌≤◌, List, ◌∷◌, [], ◌++◌, Option, Some, None, Ok, Err, arith}
 use Rattle.lists.specs.Results.{◌>>=◌}
 use Rattle.history_text.specs.LineForms.{count_of_line, cut_at}
 use Rattle.history_text.specs.Reading.{Left, Read, first_line, line_at, lines_at, said_before, section_at}
