@@ -2,8 +2,10 @@ pub mod FormLaws
 pub mod LineCuts
 pub mod LineLaws
 pub mod PartLaws
+pub mod PartReaders
 pub mod PartSteps
 pub mod ReadingLaws
+pub mod Rises
 pub mod SectionLaws
 pub mod SendingLaws
 pub mod Spans

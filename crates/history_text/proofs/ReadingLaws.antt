@@ -1,5 +1,5 @@
 -- A text is read as the history that it spells.
-use Rattle.std.proofs.Common.{◌≡◌, ℕ, ◌+◌, ◌<◌, inl, inr, false, ◌==◌, List, [], ◌∷◌, ◌++◌, length, take, map, Some, Result, Ok, Err, refl, sym, ap, subst, ◌∙◌, append_assoc, arith}
+use Rattle.std.proofs.Common.{◌≡◌, ℕ, ◌+◌, ◌<◌, ◌≤◌, inl, inr, Bool, true, false, ◌==◌, if◌then◌else◌, List, [], ◌∷◌, ◌++◌, length, take, map, Some, Result, Ok, Err, refl, sym, ap, subst, ◌∙◌, append_assoc, arith}
 use Rattle.std.specs.Prelude.{codes}
 use Rattle.std.specs.List.{AllByRecursion}
 use Rattle.std.proofs.lemmas.Bool.{eqb-true}
@@ -10,8 +10,8 @@ use Rattle.brep_tokens.specs.Written.{lines_text}
 use Rattle.lists.specs.Results.{◌>>=◌}
 use Rattle.lists.proofs.Results.{bind_ok, guard_ok, ok_is}
 use Rattle.history_text.specs.HistoryText.{IsHistory, IsShort, history_lines, number_words, origin_lines, pair_words, section, text_of}
-use Rattle.history_text.specs.LineForms.{text_of_line}
-use Rattle.history_text.specs.Reading.{Left, alone, fault_of, first_that_disagrees, history_at, history_of, line_at, origins_at, pairs_at, removed_at, rest_at}
+use Rattle.history_text.specs.LineForms.{origin_due, pair_due, removed_due, text_of_line}
+use Rattle.history_text.specs.Reading.{Left, Read, alone, fault_of, first_that_disagrees, history_at, history_of, origins_at, pairs_at, removed_at, rest_at}
 use Rattle.history_text.specs.Spelled.{Answers, FaultsHaveTheirLine, Gives, SpellsHistory, SpellsNone, TextsSpellOneHistory}
 use Rattle.history_text.specs.declared.fault.HistoryFault.{HistoryFault}
 use Rattle.history_text.specs.declared.fault.HistoryFault.TheVariants.{NotHistory, NoMemory}
@@ -20,6 +20,8 @@ use Rattle.history_text.proofs.FormLaws.{text_again, text_there}
 use Rattle.history_text.proofs.LineCuts.{lacks_test}
 use Rattle.history_text.proofs.LineLaws.{first_part, generated_part, history_parts, last_part, modified_part, origins_part, removed_part}
 use Rattle.history_text.proofs.PartLaws.{origins_span, origins_there, pairs_span, pairs_there, removed_span, removed_there}
+use Rattle.history_text.proofs.PartReaders.{behind_end, behind_generated, behind_head, behind_modified, behind_origins, behind_removed, end_at, file, head_at}
+use Rattle.history_text.proofs.Rises.{AtLeast, Rises, rises_line, rises_section, rises_then}
 use Rattle.history_text.proofs.SectionLaws.{left_at, line_there}
 use Rattle.history_text.proofs.Spans.{Spans, spans_line, spans_none, spans_then}
 
@@ -30,9 +32,6 @@ rest_text h = modified_part h ++ (generated_part h ++ (removed_part h ++ last_pa
 four : (a b c d r : List ℕ) → a ++ (b ++ (c ++ (d ++ r))) ≡ (a ++ (b ++ (c ++ d))) ++ r
 four a b c d r =
     ap (λ z. a ++ (b ++ z)) (sym (append_assoc c d r)) ∙ ap (λ z. a ++ z) (sym (append_assoc b (c ++ d) r)) ∙ sym (append_assoc a (b ++ (c ++ d)) r)
-
-abbrev file : List ℕ → List (ℕ × ℕ) → List (ℕ × ℕ) → List ℕ → HistoryFile
-file origins modified generated removed = record { origins = origins; modified = modified; generated = generated; removed = removed }
 
 -- the lines of the parts after the origins
 abbrev end_line : List (List (List ℕ))
@@ -54,14 +53,22 @@ pub record IsRest (origins : List ℕ) (bytes : List ℕ) (h : HistoryFile) (res
   pub sound : AllByRecursion IsShort h.origins → IsHistory h
   pub spelled : bytes ≡ rest_text h ++ rest
 
+later_alone : (b : Bool) (h : HistoryFile) (number line : ℕ) → fault_of (if b then Ok h else Err number) ≡ Some line → number ≡ line
+later_alone true h number line e = absurd cc
+later_alone false h number line e = cc
+
+later : (n : ℕ) (z : Read HistoryFile) (line : ℕ) → AtLeast n z → fault_of (z >>= alone) ≡ Some line → n ≤ line
+later n (Ok x) line is e = let at : x.1.number ≡ line = later_alone (length x.1.bytes == 0) x.0 x.1.number line e in omega (arith, is, at)
+later n (Err blamed) line is e = let at : blamed ≡ line = cc in omega (arith, is, at)
+
 module _ (forms : FormsAreExact) where
   rest_there : (origins : List ℕ) (old : Left) (h : HistoryFile) (left : Left) → IsShort (length origins) → rest_at origins old ≡ Ok (h, left) → IsRest origins old.bytes h left.bytes
   rest_there origins old h left short e =
       let n = length origins in
-      let m = bind_ok (pairs_at (codes "modified") n old) (λ modified. pairs_at (codes "generated") n modified.1 >>= λ generated. removed_at generated.1 >>= λ removed. line_at (text_of_line (codes "end")) removed.1 >>= λ end. Ok (file origins modified.0 generated.0 removed.0, end.1)) (h, left) e in
-      let g = bind_ok (pairs_at (codes "generated") n m.0.1) (λ generated. removed_at generated.1 >>= λ removed. line_at (text_of_line (codes "end")) removed.1 >>= λ end. Ok (file origins m.0.0 generated.0 removed.0, end.1)) (h, left) m.2 in
-      let r = bind_ok (removed_at g.0.1) (λ removed. line_at (text_of_line (codes "end")) removed.1 >>= λ end. Ok (file origins m.0.0 g.0.0 removed.0, end.1)) (h, left) g.2 in
-      let d = bind_ok (line_at (text_of_line (codes "end")) r.0.1) (λ end. Ok (file origins m.0.0 g.0.0 r.0.0, end.1)) (h, left) r.2 in
+      let m = bind_ok (pairs_at (codes "modified") n old) (behind_modified origins) (h, left) e in
+      let g = bind_ok (pairs_at (codes "generated") n m.0.1) (behind_generated origins m.0.0) (h, left) m.2 in
+      let r = bind_ok (removed_at g.0.1) (behind_removed origins m.0.0 g.0.0) (h, left) g.2 in
+      let d = bind_ok (end_at r.0.1) (behind_end origins m.0.0 g.0.0 r.0.0) (h, left) r.2 in
       let same = ok_is (file origins m.0.0 g.0.0 r.0.0, d.0.1) (h, left) d.2 in
       let one = pairs_there forms (codes "modified") n old m.0.0 m.0.1 short m.1 in
       let two = pairs_there forms (codes "generated") n m.0.1 g.0.0 g.0.1 short g.1 in
@@ -80,8 +87,8 @@ module _ (forms : FormsAreExact) where
 
   history_there : (old : Left) (h : HistoryFile) (left : Left) → history_at old ≡ Ok (h, left) → IsHistory h × (old.bytes ≡ text_of h ++ left.bytes)
   history_there old h left e =
-      let f = bind_ok (line_at (text_of_line (codes "BREP-HISTORY 1")) old) (λ head. origins_at head.1 >>= λ origins. rest_at origins.0 origins.1) (h, left) e in
-      let o = bind_ok (origins_at f.0.1) (λ origins. rest_at origins.0 origins.1) (h, left) f.2 in
+      let f = bind_ok (head_at old) behind_head (h, left) e in
+      let o = bind_ok (origins_at f.0.1) behind_origins (h, left) f.2 in
       let line = line_there (text_of_line (codes "BREP-HISTORY 1")) old f.0.0 f.0.1 f.1 in
       let head : old.bytes ≡ first_part ++ f.0.1.bytes = line.2 ∙ ap (λ z. z ++ 10 ∷ f.0.1.bytes) (text_there (codes "BREP-HISTORY 1") line.0 f.0.0 line.1) in
       let os = origins_there forms f.0.1 o.0.0 o.0.1 o.1 in
@@ -93,6 +100,31 @@ module _ (forms : FormsAreExact) where
             ∙ sym (append_assoc first_part (origins_part h ++ rest_text h) left.bytes) ∙ ap (λ z. z ++ left.bytes) (sym (history_parts h)),
       )
 
+  end_rises : (os : List ℕ) (ms gs : List (ℕ × ℕ)) (rs : List ℕ) → Rises {A = Unit {0}} (behind_end os ms gs rs)
+  end_rises os ms gs rs z = omega arith
+
+  removed_rises : (os : List ℕ) (ms gs : List (ℕ × ℕ)) → Rises {A = List ℕ} (behind_removed os ms gs)
+  removed_rises os ms gs z = rises_then z.1.number (end_at z.1) (behind_end os ms gs z.0) (rises_line (text_of_line (codes "end")) z.1) (end_rises os ms gs z.0)
+
+  generated_rises : (os : List ℕ) (ms : List (ℕ × ℕ))
+      → Rises {A = List (ℕ × ℕ)} (behind_generated os ms)
+  generated_rises os ms z =
+      rises_then z.1.number (removed_at z.1) (behind_removed os ms z.0) (rises_section (codes "removed") removed_due z.1) (removed_rises os ms z.0)
+
+  modified_rises : (os : List ℕ)
+      → Rises {A = List (ℕ × ℕ)} (behind_modified os)
+  modified_rises os z =
+      rises_then z.1.number (pairs_at (codes "generated") (length os) z.1) (behind_generated os z.0)
+      (rises_section (codes "generated") (pair_due (length os)) z.1) (generated_rises os z.0)
+
+  origins_rises : Rises {A = List ℕ} behind_origins
+  origins_rises z =
+      rises_then z.1.number (pairs_at (codes "modified") (length z.0) z.1) (behind_modified z.0)
+      (rises_section (codes "modified") (pair_due (length z.0)) z.1) (modified_rises z.0)
+
+  head_rises : Rises {A = Unit {0}} behind_head
+  head_rises z = rises_then z.1.number (origins_at z.1) behind_origins (rises_section (codes "records") origin_due z.1) origins_rises
+
   rest_spans : (h : HistoryFile) → IsHistory h → Spans (rest_at h.origins) (rest_lines h) h
   rest_spans h is =
       let n = length h.origins in
@@ -103,20 +135,21 @@ module _ (forms : FormsAreExact) where
       let modified = section (codes "modified") (map pair_words h.modified) in
       let generated = section (codes "generated") (map pair_words h.generated) in
       let removed = section (codes "removed") (map number_words h.removed) in
-      spans_then (pairs_at (codes "modified") n) (λ modified. pairs_at (codes "generated") n modified.1 >>= λ generated. removed_at generated.1 >>= λ removed. line_at (text_of_line (codes "end")) removed.1 >>= λ end. Ok (file h.origins modified.0 generated.0 removed.0, end.1))
+      spans_then (pairs_at (codes "modified") n) (behind_modified h.origins)
       modified (generated ++ (removed ++ end_line)) h.modified h one
-      (spans_then (pairs_at (codes "generated") n) (λ generated. removed_at generated.1 >>= λ removed. line_at (text_of_line (codes "end")) removed.1 >>= λ end. Ok (file h.origins h.modified generated.0 removed.0, end.1))
+      (spans_then (pairs_at (codes "generated") n) (behind_generated h.origins h.modified)
       generated (removed ++ end_line) h.generated h two
-      (spans_then removed_at (λ removed. line_at (text_of_line (codes "end")) removed.1 >>= λ end. Ok (file h.origins h.modified h.generated removed.0, end.1))
+      (spans_then removed_at (behind_removed h.origins h.modified h.generated)
       removed end_line h.removed h three
-      (spans_then (line_at (text_of_line (codes "end"))) (λ end. Ok (file h.origins h.modified h.generated h.removed, end.1)) end_line [] tt h end (spans_none h))))
+      (spans_then end_at (behind_end h.origins h.modified h.generated h.removed) end_line [] tt h end (spans_none h) (end_rises h.origins h.modified h.generated h.removed))
+      (removed_rises h.origins h.modified h.generated)) (generated_rises h.origins h.modified)) (modified_rises h.origins)
 
   history_spans : (h : HistoryFile) → IsHistory h → Spans history_at (history_lines h) h
   history_spans h is =
       let head = spans_line (text_of_line (codes "BREP-HISTORY 1")) (codes "BREP-HISTORY" ∷ codes "1" ∷ []) tt (lacks_test 10 (codes "BREP-HISTORY 1") refl) (text_again (codes "BREP-HISTORY 1")) in
       let records = section (codes "records") (origin_lines h.origins) in
-      spans_then (line_at (text_of_line (codes "BREP-HISTORY 1"))) (λ head. origins_at head.1 >>= λ origins. rest_at origins.0 origins.1) ((codes "BREP-HISTORY" ∷ codes "1" ∷ []) ∷ []) (records ++ rest_lines h) tt h head
-      (spans_then origins_at (λ origins. rest_at origins.0 origins.1) records (rest_lines h) h.origins h (origins_span forms h.origins is.origins is.written) (rest_spans h is))
+      spans_then head_at behind_head ((codes "BREP-HISTORY" ∷ codes "1" ∷ []) ∷ []) (records ++ rest_lines h) tt h head
+      (spans_then origins_at behind_origins records (rest_lines h) h.origins h (origins_span forms h.origins is.origins is.written) (rest_spans h is) origins_rises) head_rises
 
   read_there : (bytes : List ℕ) (h : HistoryFile) → history_of bytes ≡ Ok h → SpellsHistory bytes h
   unfolding history_of
@@ -154,8 +187,15 @@ module _ (forms : FormsAreExact) where
       let place : 1 + lines ≡ lines + 1 = omega arith in
       rw ((history_spans h is).short 1 lines some) (ap (λ (n : ℕ). Some n) place)
 
+  never_blamed : (h : HistoryFile) (lines : ℕ) (rest : List ℕ) (line : ℕ) → IsHistory h → lines ≤ length (history_lines h)
+      → first_that_disagrees (lines_text (take lines (history_lines h)) ++ rest) ≡ Some line → lines < line
+  unfolding history_of first_that_disagrees
+  never_blamed h lines rest line is le e =
+      let text = lines_text (take lines (history_lines h)) ++ rest in
+      omega (arith, later (1 + lines) (history_at (left_at 1 text)) line ((history_spans h is).front 1 lines rest le) e)
+
   pub faults_placed : FaultsHaveTheirLine
-  faults_placed = record { longer = goes_on; shorter = breaks_off }
+  faults_placed = record { longer = goes_on; shorter = breaks_off; front = never_blamed }
 
   none_disagrees : (bytes : List ℕ) (r : Result HistoryFile ℕ) → history_of bytes ≡ r → SpellsNone bytes → (line : ℕ) × (fault_of r ≡ Some line)
   none_disagrees bytes (Ok h) e none = absurd (none h (read_there bytes h e))

@@ -1,5 +1,5 @@
 -- Texts that spell a history, what an answer of `read` says of a text, and what holds of all texts.
-use Rattle.std.specs.Prelude.{◌≡◌, ◌↔◌, ℕ, ◌+◌, ◌<◌, List, ◌++◌, length, take, Some, Result, Ok, Err}
+use Rattle.std.specs.Prelude.{◌≡◌, ◌↔◌, ℕ, ◌+◌, ◌<◌, ◌≤◌, List, ◌++◌, length, take, Some, Result, Ok, Err}
 use Rattle.brep_tokens.specs.Written.{lines_text}
 use Rattle.history_text.specs.HistoryText.{IsHistory, history_lines, text_of}
 use Rattle.history_text.specs.Reading.{Left, Read, first_that_disagrees, history_of}
@@ -42,9 +42,11 @@ pub record TextsSpellOneHistory : Type 0 where
   pub written : (h : HistoryFile) → IsHistory h → history_of (text_of h) ≡ Ok h
 
 -- The text of a history that goes on disagrees at the line after its last one; where it breaks off after so many of its
--- lines, the next one disagrees.
+-- lines, the next one disagrees; and none of the lines that begin a history's text is blamed, whatever follows them.
 pub record FaultsHaveTheirLine : Type 0 where
   pub longer : (h : HistoryFile) (more : List ℕ) → IsHistory h → 0 < length more
       → first_that_disagrees (text_of h ++ more) ≡ Some (length (history_lines h) + 1)
   pub shorter : (h : HistoryFile) (lines : ℕ) → IsHistory h → lines < length (history_lines h)
       → first_that_disagrees (lines_text (take lines (history_lines h))) ≡ Some (lines + 1)
+  pub front : (h : HistoryFile) (lines : ℕ) (rest : List ℕ) (line : ℕ) → IsHistory h → lines ≤ length (history_lines h)
+      → first_that_disagrees (lines_text (take lines (history_lines h)) ++ rest) ≡ Some line → lines < line
