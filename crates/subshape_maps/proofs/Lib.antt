@@ -4,3 +4,4 @@ pub mod MetLemmas
 pub mod NumberLemmas
 pub mod EnterLemmas
 pub mod ListLemmas
+pub mod AboveLemmas

@@ -29,7 +29,7 @@ pub one-dropped : {X : Type 0} (p : X → Bool) (xs : List X) (i : ℕ) (x : X) 
 one-dropped p xs i x e h =
     ap (filter p) (take-at xs i x e) ∙ filter-append p (take i xs) (x ∷ []) ∙ ap (λ l. filter p (take i xs) ++ l) (rw h refl) ∙ append-none (filter p (take i xs))
 
-filter-mapped : {X Y : Type 0} (p : X → Bool) (q : Y → Bool) (f : X → Y) (xs : List X) → ((x : X) → Contains xs x → p x ≡ q (f x)) → map f (filter p xs) ≡ filter q (map f xs)
+pub filter-mapped : {X Y : Type 0} (p : X → Bool) (q : Y → Bool) (f : X → Y) (xs : List X) → ((x : X) → Contains xs x → p x ≡ q (f x)) → map f (filter p xs) ≡ filter q (map f xs)
 filter-mapped p q f [] h = refl
 filter-mapped p q f (x ∷ xs) h =
     let rest = filter-mapped p q f xs (λ y m. h y (Contains-there x y xs m)) in

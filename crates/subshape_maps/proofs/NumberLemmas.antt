@@ -35,7 +35,7 @@ and-right false b e = absurd cc
 and-both : (a b : Bool) → a ≡ true → b ≡ true → (a && b) ≡ true
 and-both a b e f = rw (e, f) refl
 
-same_test : (a b : Bool) → (a ≡ true → b ≡ true) → (b ≡ true → a ≡ true) → a ≡ b
+pub same_test : (a b : Bool) → (a ≡ true → b ≡ true) → (b ≡ true → a ≡ true) → a ≡ b
 same_test true true f g = refl
 same_test true false f g = sym (f refl)
 same_test false true f g = g refl
@@ -115,7 +115,7 @@ module _ (old new : List (List Pair)) (grows : Grows old new) where
 
 -- ---- numbers stand for shapes one to one
 module _ (rows : List Row) (sound : IsSound rows) (told : ShapesAreTold) (table : List (List Pair)) (t : IsTable table) (places : HasPlaces rows (length table)) where
-  same-tests : (a b : ShapeAt) → IsHeldAt table rows a → IsHeldAt table rows b → at_eq a b ≡ shape_eq (shape_by table rows a) (shape_by table rows b)
+  pub same-tests : (a b : ShapeAt) → IsHeldAt table rows a → IsHeldAt table rows b → at_eq a b ≡ shape_eq (shape_by table rows a) (shape_by table rows b)
   same-tests a b h k = same_test (at_eq a b) (shape_eq (shape_by table rows a) (shape_by table rows b))
       (λ e.
       let id = eqb-true a.id.0 b.id.0 (and-left (nat_eq a.id.0 b.id.0) (nat_eq a.word.0 b.word.0) e) in

@@ -1,13 +1,18 @@
 //! Limits of maps of shapes, and why a map is refused.
-ghost use Rattle.std.specs.Prelude.{Option};
+ghost use Rattle.std.specs.Prelude.{◌≡◌, Option};
+ghost use Rattle.subshape_maps.specs.declared.fault.MapFault.TheVariants.{NoMemory};
 ghost use Rattle.location_words.specs.declared.fault.WordFault.{WordFault};
 ghost use Rattle.location_words.specs.Faults.{IsDueFault};
 ghost use Rattle.subshape_maps.specs.Refusals.{IsDueWord};
 
 use location_words::WordFault;
+use std::alloc::AllocError;
 
 /// The greatest number of shapes of any kind that a map meets.
 pub const MOST_SHAPES: usize = 1_048_576;
+
+/// The greatest number of pairs of a low shape and a high one above it.
+pub const MOST_ABOVE: u64 = 16_777_216;
 
 /// Why a map of shapes is refused.
 #[derive(Clone, Copy, Debug, PartialEq, Eq)]
@@ -20,6 +25,15 @@ pub enum MapFault {
     Pairs(u64),
     /// Want of memory.
     NoMemory,
+}
+
+/// Want of memory refuses a map.
+impl From<AllocError> for MapFault {
+    ghost from_gives = { λ _ fault. fault ≡ NoMemory };
+
+    fn from(_: AllocError) -> MapFault {
+        MapFault::NoMemory
+    }
 }
 
 /// Why a map is refused where a word is.

@@ -2,9 +2,10 @@
 ghost use Rattle.std.specs.Prelude.{◌≡◌, ◌<◌, Contains, IfErr, IfOk, OnOk, [], length};
 ghost use Rattle.subshape_maps.specs.declared.shape.ShapeAt.{ShapeAt};
 ghost use Rattle.std.specs.List.{filter};
+ghost use Rattle.lists.specs.Distinct.{IsDistinct};
 ghost use Rattle.location_words.specs.Tables.{IsTable};
 ghost use Rattle.shape_pool.specs.Rows.{HasPlaces};
-ghost use Rattle.subshape_maps.specs.Numbered.{is_asked_at, occurrences_by, root_at, AreHeld, Grows, IsMap, Meets};
+ghost use Rattle.subshape_maps.specs.Numbered.{is_asked_at, occurrences_by, root_at, Grows, IsHeldAt, IsMap, Meets};
 ghost use Rattle.subshape_maps.specs.Refusals.{AreMet, IsDue};
 
 use crate::fault::MapFault;
@@ -19,27 +20,26 @@ use orientation::laws::signs_and_names_tell;
 use shape_pool::{Pool, UseOf};
 use std::alloc::{AllocError, Global};
 
-/// All shapes of a root, of whatever kind.
+/// All shapes of the occurrences of one, of whatever kind.
 pub(crate) fn all_shapes(
     alloc: Global,
     pool: &Pool,
     words: &mut Words,
-    root: UseOf,
+    at: ShapeAt,
 ) -> Result<IndexSet<ShapeAt>, MapFault>
-    requires root { root.id.0 < length pool.now }
-    requires place { root.place.0 < length words.old }
+    requires held { IsHeldAt words.old pool.now at }
     requires places { HasPlaces pool.now (length words.old) }
-    ensures met { IfOk result (λ seen. Meets words.old words.new pool.now [] seen.keys (root_at root)) }
-    ensures refused { IfErr result (IsDue [] (occurrences_by words.old pool.now (root_at root))) }
+    ensures met { IfOk result (λ seen. Meets words.old words.new pool.now [] seen.keys at) }
+    ensures once { IfOk result (λ seen. IsDistinct seen.keys) }
+    ensures refused { IfErr result (IsDue [] (occurrences_by words.old pool.now at)) }
     ensures grows { Grows words.old words.new }
     ensures table { IsTable words.new }
 {
+    pool.laws();
+    equal_trees_tell();
+    test_tells();
     let _ = words.len();
     let mut seen = IndexSet::new(alloc);
-    let at = ShapeAt {
-        id: root.id,
-        word: root.place,
-    };
     meet(pool, words, &mut seen, at)?;
     Ok(seen)
 }
@@ -99,9 +99,11 @@ pub fn map_shapes(
     equal_trees_tell();
     test_tells();
     signs_and_names_tell();
-    let seen = all_shapes(alloc, pool, words, root)?;
-    match of_kind(alloc, pool, &seen, kind) {
-        Ok(shapes) => Ok(shapes),
-        Err(_) => Err(MapFault::NoMemory),
-    }
+    let at = ShapeAt {
+        id: root.id,
+        word: root.place,
+    };
+    let seen = all_shapes(alloc, pool, words, at)?;
+    let shapes = of_kind(alloc, pool, &seen, kind)?;
+    Ok(shapes)
 }

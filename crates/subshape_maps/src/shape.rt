@@ -1,4 +1,5 @@
 //! Shapes by the numbers of their nodes and words.
+ghost use Rattle.std.specs.Prelude.{◌≡◌, ◌<◌, Some, length, slice_get};
 
 use lists::ListOf;
 use location_words::WordId;
@@ -13,3 +14,11 @@ pub struct ShapeAt {
 
 /// Shapes, each once, in the order in which they are first met.
 pub type ShapeMap = ListOf<ShapeAt>;
+
+/// The shape at a place.
+pub(crate) fn shape_at(shapes: &ShapeMap, at: usize) -> ShapeAt
+    requires { at < length shapes.now }
+    ensures { slice_get shapes.now at ≡ Some result }
+{
+    shapes.as_slice()[at]
+}
