@@ -1,11 +1,11 @@
 -- High shapes noted for low ones.
-use Rattle.std.proofs.Common.{◌≡◌, ◌∙◌, ◌<◌, ◌≤◌, ◌+◌, refl, sym, ap, subst, arith, inl, inr, true≢false}
+use Rattle.std.proofs.Common.{◌≡◌, ◌∙◌, ◌≤◌, ◌+◌, refl, sym, ap, subst, arith, inl, inr, true≢false}
 use Rattle.std.specs.Prelude.{◌↔◌, ◌||◌, ◌&&◌, ℕ, zero, suc, nat_eq, not, Bool, true, false, if◌then◌else◌, List, [], ◌∷◌, ◌++◌, map, take, length, Contains, Some, slice_get, unwrap_or}
 use Rattle.std.specs.List.{filter, list_any, sum_by, position}
 use Rattle.std.proofs.Common.{set, get_or}
 use Rattle.std.proofs.lemmas.Option.{slice_get-get_or, slice_get_within}
 use Rattle.std.proofs.lemmas.List.Quantifiers.{position-Some}
-use Rattle.std.proofs.lemmas.List.Sums.{sum_by-set, fold-append}
+use Rattle.std.proofs.lemmas.List.Sums.{sum_by-set}
 use Rattle.lists.proofs.Places.{same_entry}
 use Rattle.location_words.specs.declared.pair.Pair.{Pair}
 use Rattle.shape_pool.specs.Rows.{Row}
@@ -21,8 +21,6 @@ use Rattle.lists.proofs.Cases.{by_test}
 use Rattle.lists.proofs.Members.{Contains-here, Contains-there, Contains-map, Contains-none}
 use Rattle.lists.proofs.Places.{take-at, Contains-at, place_of, taken-row}
 use Rattle.lists.proofs.Tests.{list_any-contains, list_any-found}
-use Rattle.shape_pool.specs.declared.node.NodeId.{NodeId}
-use Rattle.location_words.specs.declared.table.WordId.{WordId}
 use Rattle.subshape_maps.specs.declared.shape.ShapeAt.{ShapeAt}
 use Rattle.subshape_maps.specs.declared.above.AboveOne.{AboveOne}
 use Rattle.subshape_maps.specs.Shapes.{shape_eq, first_places, first_places_after}

@@ -1,5 +1,6 @@
 -- Which shapes stand above which.
-use Rattle.std.specs.Prelude.{◌≡◌, ℕ, ◌+◌, ◌<◌, ◌≤◌, ◌&&◌, Bool, not, if◌then◌else◌, List, [], ◌∷◌, ◌++◌, map, length, Contains, Option, None, Some}
+use Rattle.std.specs.Prelude.{◌≡◌, ℕ, ◌+◌, ◌<◌, ◌&&◌, Bool, not, if◌then◌else◌, List, [], ◌∷◌, ◌++◌}
+use Rattle.std.specs.Prelude.{map, length, Contains, Some}
 use Rattle.std.specs.List.{filter, list_any, sum_by}
 use Rattle.lists.specs.Distinct.{IsDistinct}
 use Rattle.orientation.specs.declared.kind.Kind.{Kind}
@@ -14,10 +15,11 @@ use Rattle.subshape_maps.specs.declared.shape.ShapeAt.{ShapeAt}
 use Rattle.subshape_maps.specs.declared.above.AboveOne.{AboveOne}
 use Rattle.subshape_maps.specs.Shapes.{Shape, shape_eq, occurrences_of}
 use Rattle.subshape_maps.specs.Maps.{map_of}
-use Rattle.subshape_maps.specs.Numbered.{at_eq, shape_by, shapes_by, occurrences_by, root_at, AreHeld, IsHeldAt, HaveKinds}
+use Rattle.subshape_maps.specs.Numbered.{at_eq, shape_by, shapes_by, occurrences_by, root_at}
+use Rattle.subshape_maps.specs.Numbered.{AreHeld, IsHeldAt, HaveKinds}
 use Rattle.subshape_maps.specs.Refusals.{AreMet, IsDue}
 
--- whether a high shape stands properly above an occurrence of a low one: that one is among its occurrences, and isn't itself
+-- whether a high shape stands properly above an occurrence of a low one: that one is among its occurrences, and another
 abbrev pub stands_above : Shape → Shape → Bool
 stands_above low high = list_any (shape_eq low) (occurrences_of high) && not (shape_eq low high)
 
@@ -31,7 +33,8 @@ an_above l hs = record { low = l; high = hs }
 
 -- the low shapes of a root, each with the high shapes above one of its occurrences, all in the order of the map
 abbrev pub above_of : (ℕ → Kind) → Kind → Kind → List Pair → Tree → List Above
-above_of kind low high w x = map (λ l. an_above l (filter (stands_above l) (map_of kind (Some high) w x))) (map_of kind (Some low) w x)
+above_of kind low high w x =
+    map (λ l. an_above l (filter (stands_above l) (map_of kind (Some high) w x))) (map_of kind (Some low) w x)
 
 -- how many pairs of a low shape and a high one there are
 abbrev pub pairs_of : List Above → ℕ
@@ -64,16 +67,28 @@ rows_of table rows lows highs = map (λ l. a_row l (filter (is_above_at table ro
 abbrev pub above_by : List (List Pair) → List Row → AboveOne → Above
 above_by table rows r = an_above (shape_by table rows r.low) (shapes_by table rows r.high)
 
+-- the shapes above the low shapes of a root, by the words of a table
+abbrev pub above_in : List (List Pair) → List Row → UseOf → (ℕ → Kind) → Kind → Kind → List Above
+above_in table rows root kind low high =
+    above_of kind low high (word_in table root.place.0) (tree_at (word_in table) rows root.id.0)
+
 -- the numbers are held, and stand for the shapes above each low shape of a root
-pub record IsAboveMap (table : List (List Pair)) (rows : List Row) (root : UseOf) (low high : Kind) (above : List AboveOne) : Type 0 where
+pub record IsAboveMap (table : List (List Pair)) (rows : List Row) (root : UseOf) (low high : Kind)
+    (above : List AboveOne) : Type 0 where
   pub lows_held : (r : AboveOne) → Contains above r → IsHeldAt table rows r.low
   pub highs_held : (r : AboveOne) → Contains above r → AreHeld table rows r.high
   pub above_is : (kind : ℕ → Kind) → HaveKinds rows kind →
-      map (above_by table rows) above ≡ above_of kind low high (word_in table root.place.0) (tree_at (word_in table) rows root.id.0)
+      map (above_by table rows) above ≡ above_in table rows root kind low high
 
 -- the number of pairs of a root
 abbrev pub pairs_by : List (List Pair) → List Row → UseOf → (ℕ → Kind) → Kind → Kind → ℕ
-pairs_by table rows root kind low high = pairs_of (above_of kind low high (word_in table root.place.0) (tree_at (word_in table) rows root.id.0))
+pairs_by table rows root kind low high = pairs_of (above_in table rows root kind low high)
+
+-- why the shapes above of a root are refused, whatever kinds the origins have that agree with the nodes'
+abbrev pub IsDueAncestors : List (List Pair) → List Row → UseOf → Kind → Kind → MapFault → Type 0
+IsDueAncestors table rows root low high fault =
+    (kind : ℕ → Kind) → HaveKinds rows kind →
+    IsDueAbove (occurrences_by table rows (root_at root)) (pairs_by table rows root kind low high) fault
 
 -- ---- Noting high shapes.
 -- how many pairs are noted

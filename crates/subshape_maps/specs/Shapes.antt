@@ -18,8 +18,8 @@ a_shape x w = record { tree = x; word = w }
 abbrev pub shape_eq : Shape → Shape → Bool
 shape_eq a b = tree_eq a.tree b.tree && pairs_eq a.word b.word
 
--- The shapes of the occurrences of a tree, itself under an accumulated word and those below it: depth first, parents before
--- children, uses in order.
+-- The shapes of the occurrences of a tree, itself under an accumulated word and those below it: depth first, parents
+-- before children, uses in order.
 abbrev mutual
   pub occurrences : List Pair → Tree → List Shape
   occurrences w (node k us) = a_shape (node k us) w ∷ occurrences_below w us

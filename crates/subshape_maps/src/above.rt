@@ -1,12 +1,12 @@
 //! Which shapes stand above which.
-ghost use Rattle.std.specs.Prelude.{◌≡◌, ◌<◌, ◌≤◌, ℕ, IfErr, IfOk, OnOk, [], length, map};
+ghost use Rattle.std.specs.Prelude.{◌≡◌, ◌<◌, ◌≤◌, IfErr, IfOk, OnOk, [], length, map};
 ghost use Rattle.lists.specs.Distinct.{IsDistinct};
 ghost use Rattle.location_words.specs.Tables.{IsTable};
 ghost use Rattle.shape_pool.specs.Rows.{HasPlaces};
 ghost use Rattle.subshape_maps.specs.Shapes.{first_places};
-ghost use Rattle.orientation.specs.declared.kind.Kind.{Kind};
-ghost use Rattle.subshape_maps.specs.Above.{a_row, all_noted, counted, noted, pairs_by, rows_of, IsAboveMap, IsDueAbove, IsPastPairs, HaveLows};
-ghost use Rattle.subshape_maps.specs.Numbered.{at_eq, occurrences_by, root_at, AreHeld, Grows, HaveKinds};
+ghost use Rattle.subshape_maps.specs.Above.{a_row, all_noted, counted, noted, rows_of};
+ghost use Rattle.subshape_maps.specs.Above.{HaveLows, IsAboveMap, IsDueAncestors, IsPastPairs};
+ghost use Rattle.subshape_maps.specs.Numbered.{at_eq, occurrences_by, root_at, AreHeld, Grows};
 ghost use Rattle.subshape_maps.specs.Refusals.{AreMet};
 
 use crate::fault::{MOST_ABOVE, MapFault};
@@ -22,7 +22,8 @@ use orientation::laws::signs_and_names_tell;
 use shape_pool::{Pool, UseOf};
 use std::alloc::{AllocError, Global};
 
-/// A low shape, and the high shapes that stand properly above one of its occurrences, in the order in which they are first met.
+/// A low shape, and the high shapes that stand properly above one of its occurrences, in the order in which they are first
+/// met.
 #[derive(Drop)]
 pub struct AboveOne {
     pub low: ShapeAt,
@@ -120,8 +121,8 @@ fn note_all(
     Ok(())
 }
 
-/// Low shapes, each with the high shapes above it. All shapes below a high one were met, so that no limit is passed here but that
-/// of pairs.
+/// Low shapes, each with the high shapes above it. All shapes below a high one were met, so that no limit is passed here but
+/// that of pairs.
 fn all_above(
     alloc: Global,
     pool: &Pool,
@@ -157,8 +158,8 @@ fn all_above(
     Ok(rows)
 }
 
-/// For each low shape of a root the high shapes that stand properly above one of its occurrences, low and high shapes in the order
-/// in which they are first met.
+/// For each low shape of a root the high shapes that stand properly above one of its occurrences, low and high shapes in the
+/// order in which they are first met.
 ///
 /// Words that are met are entered into the table.
 pub fn ancestors(
@@ -175,7 +176,7 @@ pub fn ancestors(
     ensures above { IfOk result (IsAboveMap words.new pool.now root low high) }
     ensures within { OnOk result (AreMet [] (occurrences_by words.old pool.now (root_at root))) }
     ensures few { IfOk result (λ above. counted above ≤ 16777216) }
-    ensures refused { IfErr result (λ fault. (kind : ℕ → Kind) → HaveKinds pool.now kind → IsDueAbove (occurrences_by words.old pool.now (root_at root)) (pairs_by words.old pool.now root kind low high) fault) }
+    ensures refused { IfErr result (IsDueAncestors words.old pool.now root low high) }
     ensures grows { Grows words.old words.new }
     ensures table { IsTable words.new }
 {

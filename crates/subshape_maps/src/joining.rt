@@ -1,10 +1,8 @@
 //! Accumulated words by number.
 ghost use Rattle.std.specs.Prelude.{◌≡◌, ◌<◌, None, Some, IfErr, IfOk, OnOk, length, slice_get};
 ghost use Rattle.location_words.specs.Faults.{fault_of};
-ghost use Rattle.location_words.specs.Pairs.{mul as mul_of};
 ghost use Rattle.location_words.specs.Tables.{IsTable};
-ghost use Rattle.shape_pool.specs.Laws.{word_in};
-ghost use Rattle.subshape_maps.specs.Numbered.{Grows};
+ghost use Rattle.subshape_maps.specs.Numbered.{joined_in, Grows};
 ghost use Rattle.subshape_maps.specs.Refusals.{IsDueWord};
 
 use crate::fault::{MapFault, of_word};
@@ -14,9 +12,9 @@ use location_words::{WordId, Words, mul};
 pub(crate) fn joined(words: &mut Words, above: WordId, place: WordId) -> Result<WordId, MapFault>
     requires above { above.0 < length words.old }
     requires place { place.0 < length words.old }
-    ensures ok { IfOk result (λ id. slice_get words.new id.0 ≡ Some (mul_of (word_in words.old above.0) (word_in words.old place.0))) }
-    ensures within { OnOk result (fault_of (mul_of (word_in words.old above.0) (word_in words.old place.0)) ≡ None) }
-    ensures refused { IfErr result (IsDueWord (fault_of (mul_of (word_in words.old above.0) (word_in words.old place.0)))) }
+    ensures ok { IfOk result (λ id. slice_get words.new id.0 ≡ Some (joined_in words.old above place)) }
+    ensures within { OnOk result (fault_of (joined_in words.old above place) ≡ None) }
+    ensures refused { IfErr result (IsDueWord (fault_of (joined_in words.old above place))) }
     ensures grows { Grows words.old words.new }
     ensures table { IsTable words.new }
 {

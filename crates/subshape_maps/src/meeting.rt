@@ -2,8 +2,7 @@
 ghost use Rattle.std.specs.Prelude.{◌≡◌, ◌<◌, IfErr, OnOk, Some, length, slice_get};
 ghost use Rattle.location_words.specs.Tables.{IsTable};
 ghost use Rattle.shape_pool.specs.Rows.{uses_at};
-ghost use Rattle.subshape_maps.specs.Numbered.{occurrences_by, shapes_by, Grows, IsReady, Meets};
-ghost use Rattle.subshape_maps.specs.Refusals.{IsDue};
+ghost use Rattle.subshape_maps.specs.Numbered.{Grows, IsDueAfter, IsReady, Meets};
 
 use crate::fault::MapFault;
 use crate::joining::joined;
@@ -37,7 +36,7 @@ fn use_of(pool: &Pool, id: NodeId, at: usize) -> UseOf
     }
 }
 
-/// Meets a shape and, where it is a new one, the shapes of the occurrences below it. One that was met before is not entered again.
+/// Meets a shape and, where it is a new one, the shapes of the occurrences below it. One that was met before isn't entered again.
 pub(crate) fn meet(
     pool: &Pool,
     words: &mut Words,
@@ -46,7 +45,7 @@ pub(crate) fn meet(
 ) -> Result<(), MapFault>
     requires { IsReady words.old pool.now seen.old.keys at }
     ensures met { OnOk result (Meets words.old words.new pool.now seen.old.keys seen.new.keys at) }
-    ensures refused { IfErr result (IsDue (shapes_by words.old pool.now seen.old.keys) (occurrences_by words.old pool.now at)) }
+    ensures refused { IfErr result (IsDueAfter words.old pool.now seen.old.keys at) }
     ensures grows { Grows words.old words.new }
     ensures table { IsTable words.new }
 {

@@ -1,12 +1,12 @@
 -- One high shape more.
-use Rattle.std.proofs.Common.{rules, ◌≡◌, ◌∙◌, ◌≤◌, ◌<◌, ◌+◌, sym, ap, subst, arith, length}
-use Rattle.std.specs.Prelude.{List, [], take, map}
+use Rattle.std.proofs.Common.{rules, ◌≡◌, ◌∙◌, ◌≤◌, ◌+◌, sym, ap, subst, arith}
+use Rattle.std.specs.Prelude.{List, take, map}
 use Rattle.lists.proofs.Places.{Contains-at}
 use Rattle.lists.specs.Distinct.{IsDistinct}
 use Rattle.subshape_maps.specs.declared.shape.ShapeAt.{ShapeAt}
 use Rattle.subshape_maps.specs.declared.above.AboveOne.{AboveOne}
 use Rattle.subshape_maps.specs.Numbered.{IsHeldAt}
-use Rattle.subshape_maps.specs.Above.{a_row, all_noted, counted, rows_of, HaveLows, IsPastPairs}
+use Rattle.subshape_maps.specs.Above.{all_noted, counted, rows_of, IsPastPairs}
 use Rattle.subshape_maps.proofs.MetLemmas.{ShapesAreTold}
 use Rattle.subshape_maps.proofs.NumberLemmas.{shapes-told, still-held, places-stay}
 use Rattle.subshape_maps.proofs.AboveLemmas.{indexed-is, rows-lows, counted-none, counted-taken, high-noted, past-more}

@@ -1,10 +1,9 @@
 -- One low shape more.
-use Rattle.std.proofs.Common.{◌≡◌, ◌∙◌, sym, ap}
-use Rattle.std.specs.Prelude.{List, [], ◌∷◌, ◌++◌, take, map}
+use Rattle.std.proofs.Common.{◌∙◌, sym, ap}
+use Rattle.std.specs.Prelude.{[], ◌∷◌, ◌++◌, take, map}
 use Rattle.std.proofs.lemmas.List.{map-append}
 use Rattle.lists.proofs.Places.{take-at}
 use Rattle.subshape_maps.specs.declared.shape.ShapeAt.{ShapeAt}
-use Rattle.subshape_maps.specs.declared.above.AboveOne.{AboveOne}
 use Rattle.subshape_maps.specs.Above.{a_row}
 use Rattle.subshape_maps.proofs.above.alone.Goals as goal
 

@@ -1,12 +1,11 @@
 -- The rows stand for the high shapes above each low one.
-use Rattle.std.proofs.Common.{rules, ◌≡◌, ◌∙◌, sym, subst, ℕ, length}
+use Rattle.std.proofs.Common.{◌∙◌, sym, subst}
 use Rattle.std.specs.Prelude.{List, Some}
 use Rattle.lists.specs.Distinct.{IsDistinct}
 use Rattle.lists.proofs.Distinct.{IsDistinct-filter}
-use Rattle.orientation.specs.declared.kind.Kind.{Kind}
 use Rattle.subshape_maps.specs.declared.shape.ShapeAt.{ShapeAt}
-use Rattle.subshape_maps.specs.Numbered.{is_asked_at, occurrences_by, root_at, HaveKinds, IsMap}
-use Rattle.subshape_maps.specs.Above.{counted, rows_of, pairs_by, IsDueAbove}
+use Rattle.subshape_maps.specs.Numbered.{is_asked_at, occurrences_by, root_at, IsMap}
+use Rattle.subshape_maps.specs.Above.{counted, rows_of, pairs_by}
 use Rattle.subshape_maps.proofs.MetLemmas.{ShapesAreTold}
 use Rattle.subshape_maps.proofs.NumberLemmas.{shapes-told, places-stay, still-held}
 use Rattle.subshape_maps.proofs.ListLemmas.{map-is}

@@ -1,5 +1,5 @@
 -- One shape more.
-use Rattle.std.proofs.Common.{◌≡◌, ◌∙◌, sym, ap}
+use Rattle.std.proofs.Common.{◌∙◌, sym, ap}
 use Rattle.std.specs.Prelude.{List, [], ◌∷◌, take}
 use Rattle.std.proofs.lemmas.List.Sums.{fold-append}
 use Rattle.lists.proofs.Places.{take-at}

@@ -1,9 +1,8 @@
 -- One key more.
-use Rattle.std.proofs.Common.{rules, ◌≡◌, ◌∙◌, ◌≤◌, ◌+◌, sym, ap, subst, true≢false}
-use Rattle.std.specs.Prelude.{List, take, not, true, false}
+use Rattle.std.proofs.Common.{rules, ◌≡◌, ◌∙◌, ◌≤◌, ◌+◌, sym, ap, subst}
+use Rattle.std.specs.Prelude.{List, take}
 use Rattle.subshape_maps.specs.declared.shape.ShapeAt.{ShapeAt}
 use Rattle.subshape_maps.specs.declared.above.AboveOne.{AboveOne}
-use Rattle.subshape_maps.specs.Numbered.{at_eq}
 use Rattle.subshape_maps.specs.Above.{all_noted, noted, counted, HaveLows, IsPastPairs}
 use Rattle.subshape_maps.proofs.AboveLemmas.{none-among, still-lows, more-noted, same-noted, counted-whole, past-more, differ, alike}
 use Rattle.subshape_maps.proofs.above.note_all.Goals as goal

@@ -1,6 +1,6 @@
 -- The low shape's place is the only one with its numbers.
-use Rattle.std.proofs.Common.{◌≡◌, ◌∙◌, ◌<◌, ◌≤◌, ◌+◌, sym, ap, subst, arith, refl, true≢false, length, slice_set}
-use Rattle.std.specs.Prelude.{List, ◌++◌, ◌∷◌, [], map, Contains, false, true, Some, slice_get}
+use Rattle.std.proofs.Common.{◌≡◌, ◌∙◌, ◌<◌, sym, ap, subst, arith, refl, true≢false, length, slice_set}
+use Rattle.std.specs.Prelude.{List, Contains, false, Some, slice_get}
 use Rattle.std.specs.List.{list_any}
 use Rattle.std.proofs.lemmas.List.{length-map}
 use Rattle.std.proofs.lemmas.Option.{slice_get_read}
@@ -9,7 +9,7 @@ use Rattle.lists.proofs.Tests.{list_any-contains}
 use Rattle.subshape_maps.specs.declared.shape.ShapeAt.{ShapeAt}
 use Rattle.subshape_maps.specs.declared.above.AboveOne.{AboveOne}
 use Rattle.subshape_maps.specs.Numbered.{at_eq}
-use Rattle.subshape_maps.specs.Above.{a_row, with_high, noted, counted}
+use Rattle.subshape_maps.specs.Above.{a_row, counted}
 use Rattle.subshape_maps.proofs.AboveLemmas.{none-noted, noted-at, counted-at, place-is, same-at}
 use Rattle.subshape_maps.proofs.above.note_one.Goals as goal
 

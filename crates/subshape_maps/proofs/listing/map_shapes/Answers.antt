@@ -1,5 +1,4 @@
 -- All shapes are met, and those of the kind are taken.
-use Rattle.std.proofs.Common.{◌≡◌}
 use Rattle.subshape_maps.proofs.NumberLemmas.{shapes-told}
 use Rattle.subshape_maps.proofs.ListLemmas.{map-is}
 use Rattle.subshape_maps.proofs.listing.map_shapes.Goals as goal
