@@ -1,5 +1,5 @@
 -- Images compose.
-use Rattle.std.proofs.Common.{◌≡◌, refl, sym, subst}
+use Rattle.std.proofs.Common.{refl, sym, subst}
 use Rattle.std.specs.Prelude.{◌↔◌, List, Contains}
 use Rattle.orientation.specs.declared.kind.Kind.{Kind}
 use Rattle.expansion_laws.specs.Trees.{Tree}

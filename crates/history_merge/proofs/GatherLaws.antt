@@ -1,10 +1,10 @@
 -- What is gathered item by item.
-use Rattle.std.proofs.Common.{◌≡◌, ◌∙◌, refl, sym, ap, subst, arith, inl, inr, true≢false, IsTrue, take, drop, slice_get, slice_index_or, Some, ◌≤◌, ◌<◌, ◌+◌}
-use Rattle.std.specs.Prelude.{◌↔◌, ◌⊎◌, ℕ, Bool, true, false, List, [], ◌∷◌, ◌++◌, Contains, length}
+use Rattle.std.proofs.Common.{◌≡◌, ◌∙◌, sym, ap, subst, inl, inr, true≢false, IsTrue, take, slice_index_or, ◌≤◌, ◌<◌, ◌+◌}
+use Rattle.std.specs.Prelude.{◌↔◌, ℕ, Bool, false, List, [], ◌∷◌, ◌++◌, Contains, length}
 use Rattle.std.proofs.lemmas.List.{take_all}
 use Rattle.std.proofs.lemmas.Option.{slice_get-get_or}
-use Rattle.std.proofs.lemmas.List.Elements.{Contains-append_left, Contains-append_right, Contains-append_cases, Contains-push, Contains-push_cases}
-use Rattle.lists.proofs.Members.{Contains-here, Contains-none}
+use Rattle.std.proofs.lemmas.List.Elements.{Contains-append_left, Contains-push, Contains-push_cases}
+use Rattle.lists.proofs.Members.{Contains-none}
 use Rattle.lists.proofs.Places.{take-at}
 use Rattle.shape_pool.specs.declared.node.NodeId.{NodeId}
 use Rattle.step_history.specs.Gathering.{Adds, Gathers}

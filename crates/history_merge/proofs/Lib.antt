@@ -1,3 +1,5 @@
 pub mod GatherLaws
 pub mod StartLaws
 pub mod ComposeLaws
+pub mod JoinLaws
+pub mod ChainLaws

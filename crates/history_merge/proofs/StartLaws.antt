@@ -17,7 +17,6 @@ use Rattle.step_history.specs.Composition.{no_history}
 use Rattle.step_history.specs.Gathering.{Gathers}
 use Rattle.step_history.specs.Numbered.{IsHeld, IsReading, OccursAt, Tells, tree_by}
 use Rattle.history_merge.specs.Merged.{IsStartAt, Stays}
-use Rattle.history_merge.proofs.GatherLaws.{named_by}
 
 pub sorted-nothing : {X : Type 0} (c : X → X → Ordering) (xs : List X) → xs ≡ [] → IsStrictlySortedBy c xs
 unfolding IsStrictlySortedBy
@@ -60,12 +59,12 @@ module _ (rows : List Row) (sound : IsSound rows) (root : ℕ) (held : root < le
   start-tells kind_of word n reading = record {
     images = (
       (λ p m. (let g = (is.images p.0 p.1).0 m in
-      let own = occurs-held rows sound root held p.0.0 g.2 in
-      (ap (tree_by word rows) g.0, subst IsSupported (sym (reading.kinds p.0.0 own)) g.1, sound.ids_of_subtrees.subtree word root p.0.0 held g.2))),
+          let own = occurs-held rows sound root held p.0.0 g.2 in
+          (ap (tree_by word rows) g.0, subst IsSupported (sym (reading.kinds p.0.0 own)) g.1, sound.ids_of_subtrees.subtree word root p.0.0 held g.2))),
       (λ t s r. (let f = sound.ids_of_subtrees.reached word root t held r.2 in
-      let own = occurs-held rows sound root held f.0 f.1 in
-      let i : NodeId = record { 0 = f.0 } in
-      ((i, i), (is.images i i).1 (refl, subst IsSupported (reading.kinds f.0 own) (subst (λ z. IsSupported (kind_of z)) (sym f.2) r.1), f.1), f.2, f.2 ∙ r.0))),
+          let own = occurs-held rows sound root held f.0 f.1 in
+          let i : NodeId = record { 0 = f.0 } in
+          ((i, i), (is.images i i).1 (refl, subst IsSupported (reading.kinds f.0 own) (subst (λ z. IsSupported (kind_of z)) (sym f.2) r.1), f.1), f.2, f.2 ∙ r.0))),
     );
     generated = ((λ p m. nothing h.generated p is.generated m), (λ t s r. absurd r));
     removed = ((λ i m. nothing h.removed i is.removed m), (λ t r. absurd r));

@@ -2,12 +2,12 @@
 use Rattle.std.specs.Prelude.{◌≡◌, ◌↔◌, ℕ, List, [], Contains}
 use Rattle.orientation.specs.declared.kind.Kind.{Kind}
 use Rattle.location_words.specs.declared.pair.Pair.{Pair}
-use Rattle.expansion_laws.specs.Trees.{Tree, Use}
+use Rattle.expansion_laws.specs.Trees.{Tree}
 use Rattle.expansion_laws.specs.Measures.{OccursIn}
 use Rattle.shape_pool.specs.declared.node.NodeId.{NodeId}
 use Rattle.shape_pool.specs.Rows.{Row, kind_at, tree_at}
 use Rattle.step_history.specs.declared.history.StepHistory.{StepHistory}
-use Rattle.step_history.specs.History.{History, IsSupported}
+use Rattle.step_history.specs.History.{IsSupported}
 use Rattle.step_history.specs.Composition.{followed_by, no_history}
 use Rattle.step_history.specs.Numbered.{IsReading, OccursAt, Tells, tree_by}
 

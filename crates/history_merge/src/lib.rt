@@ -1,7 +1,10 @@
 //! The history over several steps: the one over no step, with which it begins, and the laws by which histories are put together.
 #![tactic(auto)]
 
+mod in_row;
+mod joined;
 pub mod laws;
 mod no_step;
 
+pub use in_row::chain;
 pub use no_step::start;

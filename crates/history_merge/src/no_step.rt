@@ -11,11 +11,7 @@ use std::alloc::{AllocError, Global};
 use step_history::{Met, StepHistory, ascending_pairs, is_spoken_of, nodes_of};
 
 /// Adds the pair of a shape of which histories speak and itself.
-fn stay(
-    pool: &Pool,
-    id: u32,
-    pairs: &mut Vec<(NodeId, NodeId)>,
-) -> Result<(), AllocError>
+fn stay(pool: &Pool, id: u32, pairs: &mut Vec<(NodeId, NodeId)>) -> Result<(), AllocError>
     requires { id < length pool.now }
     ensures { OnOk result (Adds (Stays pool.now id) pairs.old.items pairs.new.items) }
 {
