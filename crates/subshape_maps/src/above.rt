@@ -158,8 +158,8 @@ fn all_above(
     Ok(rows)
 }
 
-/// For each low shape of a root the high shapes that stand properly above one of its occurrences, low and high shapes in
-/// the order in which they are first met.
+/// For each low shape of a root the high shapes that stand properly above one of its occurrences, low and high shapes
+/// in the order in which they are first met.
 ///
 /// Words that are met are entered into the table.
 pub fn ancestors(
