@@ -59,8 +59,8 @@ is_asked_at rows asked s = is_asked asked (kind_at rows s.id.0)
 abbrev pub HaveKinds : List Row → (ℕ → Kind) → Type 0
 HaveKinds rows kind = (i : ℕ) → i < length rows → kind (origin_at rows i) ≡ kind_at rows i
 
--- the numbered shapes are held, and stand for the map of a root, by the words of a table, whatever kinds the origins have
--- that agree with the nodes'
+-- the numbered shapes are held, and stand for the map of a root, by the words of a table, whatever kinds the origins
+-- have that agree with the nodes'
 pub record IsMap (table : List (List Pair)) (rows : List Row) (root : UseOf) (asked : Option Kind)
     (shapes : List ShapeAt) : Type 0 where
   pub held : AreHeld table rows shapes

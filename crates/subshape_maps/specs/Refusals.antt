@@ -35,13 +35,15 @@ pub record IsFirstPast (met more before : List Shape) (s : Shape) (after : List 
   pub parts : more ≡ before ++ s ∷ after
   pub within : AreMet met before
 
--- Why more shapes are refused, after shapes that are met: at each first its word is tested, then the number of all so far.
+-- Why more shapes are refused, after shapes that are met: at each first its word is tested, then the number of all so
+-- far.
 abbrev pub IsDue : List Shape → List Shape → MapFault → Type 0
 IsDue met more (Word f) =
     (before : List Shape) × (s : Shape) × (after : List Shape) × IsFirstPast met more before s after ×
     (fault_of s.word ≡ Some f)
 IsDue met more (Keys n) =
     (before : List Shape) × (s : Shape) × (after : List Shape) × IsFirstPast met more before s after ×
-    (fault_of s.word ≡ None) × (most_shapes < length (first_places_after shape_eq met (before ++ s ∷ []))) × (n ≡ most_shapes + 1)
+    (fault_of s.word ≡ None) × (most_shapes < length (first_places_after shape_eq met (before ++ s ∷ []))) ×
+    (n ≡ most_shapes + 1)
 IsDue met more (Pairs n) = ⊥
 IsDue met more NoMemory = Unit {0}

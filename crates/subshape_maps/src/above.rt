@@ -22,8 +22,8 @@ use orientation::laws::signs_and_names_tell;
 use shape_pool::{Pool, UseOf};
 use std::alloc::{AllocError, Global};
 
-/// A low shape, and the high shapes that stand properly above one of its occurrences, in the order in which they are first
-/// met.
+/// A low shape, and the high shapes that stand properly above one of its occurrences, in the order in which they are
+/// first met.
 #[derive(Drop)]
 pub struct AboveOne {
     pub low: ShapeAt,
@@ -121,8 +121,8 @@ fn note_all(
     Ok(())
 }
 
-/// Low shapes, each with the high shapes above it. All shapes below a high one were met, so that no limit is passed here but
-/// that of pairs.
+/// Low shapes, each with the high shapes above it. All shapes below a high one were met, so that no limit is passed
+/// here but that of pairs.
 fn all_above(
     alloc: Global,
     pool: &Pool,
@@ -158,8 +158,8 @@ fn all_above(
     Ok(rows)
 }
 
-/// For each low shape of a root the high shapes that stand properly above one of its occurrences, low and high shapes in the
-/// order in which they are first met.
+/// For each low shape of a root the high shapes that stand properly above one of its occurrences, low and high shapes
+/// in the order in which they are first met.
 ///
 /// Words that are met are entered into the table.
 pub fn ancestors(

@@ -75,8 +75,8 @@ pub(crate) fn of_kind(
     Ok(shapes)
 }
 
-/// The shapes of a kind in the expansion of a root, each once in the order in which it is first met: depth first, parents
-/// before children, uses in order. Without a kind it is those of every kind.
+/// The shapes of a kind in the expansion of a root, each once in the order in which it is first met: depth first,
+/// parents before children, uses in order. Without a kind it is those of every kind.
 ///
 /// A shape that was met is not entered again. Words that are met are entered into the table.
 pub fn map_shapes(

@@ -36,7 +36,8 @@ fn use_of(pool: &Pool, id: NodeId, at: usize) -> UseOf
     }
 }
 
-/// Meets a shape and, where it is a new one, the shapes of the occurrences below it. One that was met before isn't entered again.
+/// Meets a shape and, where it is a new one, the shapes of the occurrences below it. One that was met before isn't
+/// entered again.
 pub(crate) fn meet(
     pool: &Pool,
     words: &mut Words,
