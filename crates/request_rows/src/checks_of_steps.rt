@@ -71,6 +71,27 @@ fn has_cycle(table: &RequestTable, pool: &Pool, root: NodeId, origins: &[u32]) -
 }
 
 #[test]
+fn a_place_may_close_a_cycle(rt: HostRuntime) -> Result<(), Fail> {
+    let mut pool = Pool::new(rt.alloc())?;
+    let three = load_vertex(&mut pool, 3)?;
+    let two = load_vertex(&mut pool, 2)?;
+    let root = wrap(&mut pool, &[use_of(three), use_of(two)])?;
+    let mut by_itself = RequestTable::new(rt.alloc());
+    let moved = UseOf {
+        turn: Turn::Forward,
+        place: WordId(2),
+        id: three,
+    };
+    replace(&mut by_itself, &pool, three, Some(WordId(1)), None, moved)?;
+    same(&rt, &has_cycle(&by_itself, &pool, root, &[3, 3]), &true);
+    let mut t = RequestTable::new(rt.alloc());
+    replace(&mut t, &pool, three, None, None, use_of(two))?;
+    replace(&mut t, &pool, two, Some(WordId(1)), None, use_of(three))?;
+    same(&rt, &has_cycle(&t, &pool, root, &[3, 2, 3]), &true);
+    Ok(())
+}
+
+#[test]
 fn edges_go_to_the_uses_of_a_higher_target(rt: HostRuntime) -> Result<(), Fail> {
     let mut pool = Pool::new(rt.alloc())?;
     let one = load_vertex(&mut pool, 1)?;
