@@ -77,7 +77,10 @@ fn commands_of(
     let mut at = 0u64;
     'lines: while let Some(bytes) = lines.next() {
         at += 1;
-        take_line(alloc, &mut taken, at, bytes, shapes, locations)?;
+        match take_line(alloc, &mut taken, at, bytes, shapes, locations) {
+            Ok(()) => {}
+            Err(stop) => return Err(stop),
+        }
     }
     Ok(taken)
 }

@@ -12,10 +12,10 @@ lines-init c = record {
       c.lines_of-lines.ensures;
 }
 
-pub returns-in_err-take_line-clause-err : goal.returns-in_err-take_line-clause-err
-returns-in_err-take_line-clause-err c =
-    subst (λ said. StopGiven c.args.shapes c.args.locations c.in_err-take_line.field-0.0 (given_by said))
+pub returns-in-Err-clause-err : goal.returns-in-Err-clause-err
+returns-in-Err-clause-err c =
+    subst (λ said. StopGiven c.args.shapes c.args.locations c.in-Err.stop (given_by said))
     (ap (λ ls. after_commands c.lines.taken.items (lines_read c.args.shapes c.args.locations (c.lines.at + 1) ls))
     (sym c.in-Some.ensures.steps) ∙ c.lines.invariant.read)
-    (c.in_err-take_line.ensures.err (lines_read c.args.shapes c.args.locations (c.lines.at + 1 + 1)
+    (c.in-Err.ensures.err (lines_read c.args.shapes c.args.locations (c.lines.at + 1 + 1)
     (lines_left c.next.new.self)))
