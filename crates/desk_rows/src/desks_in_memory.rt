@@ -1,6 +1,7 @@
 //! A desk in memory, and whole reads and writes over it.
 ghost use Rattle.std.specs.Prelude.{◌≡◌, ◌<◌};
 
+use crate::same::same;
 use brep_desk::{
     Bytes, Chan, CommandWords, Desk, Failed, MemoryDesk, NameText, ReadAll, Steps, WriteStop,
     read_all, write_all,
@@ -21,69 +22,24 @@ fn desk_of(alloc: Global, failing: &[u64], piece: usize) -> Result<MemoryDesk, A
     Ok(MemoryDesk::new(alloc, files, Vec::from_slice(alloc, failing)?, piece))
 }
 
-/// Does a read into the first so many bytes give so many, with these in the buffer then?
-fn reads(
-    desk: &mut MemoryDesk,
-    c: Chan,
-    buf: &mut [u8],
-    most: usize,
-    got: usize,
-    left: &str,
-) -> bool {
-    let read = match buf.get_mut(..most) {
-        Some(part) => desk.read(c, part),
-        None => return false,
-    };
-    read == Ok(got) && *buf == *left.as_bytes()
-}
-
-/// Does a read fail?
-fn fails_to_read(desk: &mut MemoryDesk, c: Chan) -> bool {
-    let mut buf = [0u8; 8];
-    desk.read(c, &mut buf) == Err(Failed)
-}
-
-/// Does a write take so many bytes?
-fn takes(desk: &mut MemoryDesk, c: Chan, text: &str, taken: usize) -> bool {
-    desk.write(c, text.as_bytes()) == Ok(taken)
-}
-
-/// Does a write fail?
-fn fails_to_write(desk: &mut MemoryDesk, c: Chan) -> bool {
-    desk.write(c, b"z") == Err(Failed)
-}
-
-/// Does the reading or writing end?
-fn ends(desk: &mut MemoryDesk, c: Chan) -> bool {
-    desk.end(c) == Ok(())
-}
-
-/// Are there so many faults, and is memory never short?
-fn tells(desk: &MemoryDesk, faults: u64) -> bool {
-    desk.faults() == faults && desk.short() == 0
-}
-
-/// Does this text stand under the name `out`, whole or not?
-fn stands(desk: &MemoryDesk, text: &str, whole: bool) -> bool {
-    match desk.written("out") {
-        Some(bytes) => *bytes == *text.as_bytes() && desk.ended("out") == whole,
-        None => false,
-    }
-}
-
 #[test]
 fn reads_in_pieces(rt: HostRuntime) -> Result<(), Fail> {
     let mut desk = desk_of(rt.alloc(), &[], 2)?;
     let c = desk.begin_read("in").ok().ok_or("begin")?;
     let mut buf = [0u8; 3];
-    assert!(rt; reads(&mut desk, c, &mut buf, 3, 2, "ab\0"));
-    assert!(rt; reads(&mut desk, c, &mut buf, 1, 1, "cb\0"));
-    assert!(rt; reads(&mut desk, c, &mut buf, 3, 2, "de\0"));
-    assert!(rt; reads(&mut desk, c, &mut buf, 3, 0, "de\0"));
-    assert!(rt; ends(&mut desk, c) && tells(&desk, 0));
-    assert!(rt; fails_to_read(&mut desk, c));
-    assert!(rt; desk.end(c) == Err(Failed));
-    assert!(rt; tells(&desk, 2));
+    same(&rt, &desk.read(c, &mut buf), &Ok(2));
+    same(&rt, &buf, &*b"ab\0");
+    same(&rt, &desk.read(c, &mut buf[..1]), &Ok(1));
+    same(&rt, &buf, &*b"cb\0");
+    same(&rt, &desk.read(c, &mut buf), &Ok(2));
+    same(&rt, &buf, &*b"de\0");
+    same(&rt, &desk.read(c, &mut buf), &Ok(0));
+    same(&rt, &desk.end(c), &Ok(()));
+    same(&rt, &desk.faults(), &0);
+    same(&rt, &desk.read(c, &mut buf), &Err(Failed));
+    same(&rt, &desk.end(c), &Err(Failed));
+    same(&rt, &desk.faults(), &2);
+    same(&rt, &desk.short(), &0);
     Ok(())
 }
 
@@ -92,61 +48,55 @@ fn writes_in_pieces(rt: HostRuntime) -> Result<(), Fail> {
     let mut desk = desk_of(rt.alloc(), &[], 2)?;
     assert!(rt; desk.written("out").is_none());
     let c = desk.begin_write("out").ok().ok_or("begin")?;
-    assert!(rt; stands(&desk, "", false));
-    assert!(rt; takes(&mut desk, c, "xyz", 2));
-    assert!(rt; takes(&mut desk, c, "z", 1));
-    assert!(rt; stands(&desk, "xyz", false));
-    assert!(rt; ends(&mut desk, c) && stands(&desk, "xyz", true));
-    assert!(rt; fails_to_write(&mut desk, c));
+    same(&rt, &desk.written("out").ok_or("none")?, &b"".as_slice());
+    same(&rt, &desk.write(c, b"xyz"), &Ok(2));
+    same(&rt, &desk.write(c, b"z"), &Ok(1));
+    same(&rt, &desk.written("out").ok_or("none")?, &b"xyz".as_slice());
+    assert!(rt; !desk.ended("out"));
+    same(&rt, &desk.end(c), &Ok(()));
+    assert!(rt; desk.ended("out"));
+    same(&rt, &desk.write(c, b"z"), &Err(Failed));
     let again = desk.begin_write("out").ok().ok_or("again")?;
-    assert!(rt; again.number == 1);
-    assert!(rt; stands(&desk, "", false));
-    assert!(rt; desk.short() == 0);
+    same(&rt, &desk.written("out").ok_or("none")?, &b"".as_slice());
+    assert!(rt; !desk.ended("out"));
+    same(&rt, &again.number, &1);
+    same(&rt, &desk.short(), &0);
     Ok(())
 }
 
 #[test]
 fn fails_where_it_is_told(rt: HostRuntime) -> Result<(), Fail> {
     let mut desk = desk_of(rt.alloc(), &[1, 3], 8)?;
-    assert!(rt; desk.begin_read("in") == Err(Failed));
+    same(&rt, &desk.begin_read("in"), &Err(Failed));
     let c = desk.begin_read("in").ok().ok_or("begin")?;
-    assert!(rt; fails_to_read(&mut desk, c));
     let mut buf = [0u8; 8];
-    assert!(rt; reads(&mut desk, c, &mut buf, 8, 5, "abcde\0\0\0"));
-    assert!(rt; tells(&desk, 2));
-    assert!(rt; desk.begin_read("out") == Err(Failed));
-    assert!(rt; fails_to_read(&mut desk, Chan { number: 7 }));
-    assert!(rt; fails_to_write(&mut desk, c));
-    assert!(rt; tells(&desk, 5));
+    same(&rt, &desk.read(c, &mut buf), &Err(Failed));
+    same(&rt, &desk.read(c, &mut buf), &Ok(5));
+    same(&rt, &desk.faults(), &2);
+    same(&rt, &desk.begin_read("out"), &Err(Failed));
+    same(&rt, &desk.read(Chan { number: 7 }, &mut buf), &Err(Failed));
+    same(&rt, &desk.write(c, b"z"), &Err(Failed));
+    same(&rt, &desk.faults(), &5);
+    same(&rt, &desk.short(), &0);
     Ok(())
-}
-
-/// Is the name that is read up to so many bytes too long?
-fn is_longer(alloc: Global, desk: &mut MemoryDesk, most: u64) -> bool {
-    match read_all(alloc, desk, "in", most) {
-        Ok(_) => false,
-        Err(why) => why == ReadAll::TooLong,
-    }
-}
-
-/// Is the name `out` missed?
-fn is_missed(alloc: Global, desk: &mut MemoryDesk) -> bool {
-    match read_all(alloc, desk, "out", 4) {
-        Ok(_) => false,
-        Err(why) => why == ReadAll::Failed,
-    }
 }
 
 #[test]
 fn reads_whole_names(rt: HostRuntime) -> Result<(), Fail> {
     let mut desk = desk_of(rt.alloc(), &[], 2)?;
-    match read_all(rt.alloc(), &mut desk, "in", 5) {
-        Ok(bytes) => assert!(rt; *bytes.as_slice() == *b"abcde".as_slice()),
-        Err(_) => assert!(rt; false, "at the limit"),
-    }
-    assert!(rt; is_longer(rt.alloc(), &mut desk, 4));
-    assert!(rt; desk.faults() == 0);
-    assert!(rt; is_missed(rt.alloc(), &mut desk));
+    let bytes = read_all(rt.alloc(), &mut desk, "in", 5)
+        .ok()
+        .ok_or("at the limit")?;
+    same(&rt, &bytes.as_slice(), &b"abcde".as_slice());
+    let longer = read_all(rt.alloc(), &mut desk, "in", 4)
+        .err()
+        .ok_or("past it")?;
+    same(&rt, &longer, &ReadAll::TooLong);
+    same(&rt, &desk.faults(), &0);
+    let absent = read_all(rt.alloc(), &mut desk, "out", 4)
+        .err()
+        .ok_or("absent")?;
+    same(&rt, &absent, &ReadAll::Failed);
     Ok(())
 }
 
@@ -154,29 +104,29 @@ fn reads_whole_names(rt: HostRuntime) -> Result<(), Fail> {
 fn stops_at_a_failed_write(rt: HostRuntime) -> Result<(), Fail> {
     let mut desk = desk_of(rt.alloc(), &[4], 1)?;
     let c = desk.begin_write("out").ok().ok_or("begin")?;
-    assert!(rt; write_all(&mut desk, c, b"xyz") == Err(WriteStop { taken: 2 }));
-    assert!(rt; stands(&desk, "xy", false));
-    assert!(rt; write_all(&mut desk, c, b"z") == Ok(()));
-    assert!(rt; stands(&desk, "xyz", false));
+    same(
+        &rt,
+        &write_all(&mut desk, c, b"xyz"),
+        &Err(WriteStop { taken: 2 }),
+    );
+    same(&rt, &desk.written("out").ok_or("none")?, &b"xy".as_slice());
+    assert!(rt; !desk.ended("out"));
+    same(&rt, &write_all(&mut desk, c, b"z"), &Ok(()));
+    same(&rt, &desk.written("out").ok_or("none")?, &b"xyz".as_slice());
     Ok(())
-}
-
-/// The words `copy`, `a` and `b`.
-fn three_words(alloc: Global) -> Result<CommandWords, AllocError> {
-    let mut words = CommandWords::new(alloc);
-    words.push(NameText::of(String::from_str(alloc, "copy")?))?;
-    words.push(NameText::of(String::from_str(alloc, "a")?))?;
-    words.push(NameText::of(String::from_str(alloc, "b")?))?;
-    Ok(words)
 }
 
 #[test]
 fn keeps_words_in_order(rt: HostRuntime) -> Result<(), Fail> {
-    assert!(rt; CommandWords::new(rt.alloc()).is_empty());
-    let words = three_words(rt.alloc())?;
-    assert!(rt; words.len() == 3 && words.as_slice().len() == 3);
-    assert!(rt; words.get(1).ok_or("second")?.text() == "a");
+    let mut words = CommandWords::new(rt.alloc());
+    assert!(rt; words.is_empty());
+    for word in ["copy", "a", "b"] {
+        words.push(NameText::of(String::from_str(rt.alloc(), word)?))?;
+    }
+    same(&rt, &words.len(), &3);
+    same(&rt, &words.get(1).ok_or("second")?.text(), &"a");
     assert!(rt; words.get(3).is_none());
+    same(&rt, &words.as_slice().len(), &3);
     Ok(())
 }
 

@@ -3,3 +3,5 @@
 
 #[cfg(test)]
 mod desks_in_memory;
+#[cfg(test)]
+mod same;
