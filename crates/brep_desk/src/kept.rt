@@ -54,10 +54,8 @@ pub(crate) fn begin_reading(
     if is_full(channels) {
         return Err(Refusal::Fault);
     }
-    match reader(alloc, name, bytes) {
-        Ok(channel) => open(channels, channel),
-        Err(refusal) => Err(refusal),
-    }
+    let channel = reader(alloc, name, bytes)?;
+    open(channels, channel)
 }
 
 /// Opens a channel for writing a name anew.
@@ -88,10 +86,7 @@ pub(crate) fn begin_writing(
         },
         Err(_) => return Err(Refusal::NoMemory),
     };
-    let number = match open(channels, channel) {
-        Ok(number) => number,
-        Err(refusal) => return Err(refusal),
-    };
+    let number = open(channels, channel)?;
     match restart(alloc, outputs, name) {
         Ok(()) => Ok(number),
         Err(_) => {

@@ -85,10 +85,8 @@ pub(crate) fn is_whole(outputs: &[Output], name: &str) -> bool
 pub(crate) fn copy_name(alloc: Global, name: &str) -> Result<NameText, AllocError>
     ensures { IfOk result (λ n. n ≡ name.now) }
 {
-    match String::from_str(alloc, name) {
-        Ok(text) => Ok(NameText::of(text)),
-        Err(e) => Err(e),
-    }
+    let text = String::from_str(alloc, name)?;
+    Ok(NameText::of(text))
 }
 
 /// Begins the output with the name anew, or adds it.
@@ -109,18 +107,13 @@ pub(crate) fn restart(
             Ok(())
         }
         None => {
-            let output = match copy_name(alloc, name) {
-                Ok(name) => Output {
-                    name,
-                    bytes: Bytes::of(Vec::new(alloc)),
-                    ended: false,
-                },
-                Err(e) => return Err(e),
+            let output = Output {
+                name: copy_name(alloc, name)?,
+                bytes: Bytes::of(Vec::new(alloc)),
+                ended: false,
             };
-            match outputs.push(output) {
-                Ok(()) => Ok(()),
-                Err(e) => Err(AllocError::from(e)),
-            }
+            outputs.push(output)?;
+            Ok(())
         }
     }
 }
@@ -135,10 +128,8 @@ pub(crate) fn append(outputs: &mut Vec<Output>, name: &str, bytes: &[u8]) -> Res
     match place(outputs, name) {
         Some(i) => {
             let output = &mut outputs[i];
-            match output.bytes.append(bytes) {
-                Ok(()) => Ok(()),
-                Err(e) => Err(e),
-            }
+            output.bytes.append(bytes)?;
+            Ok(())
         }
         None => Ok(()),
     }

@@ -41,15 +41,11 @@ fn code_due(t: &Token) -> Result<u64, ReadFault>
     ensures answer { AnswersCode t.now result }
     ensures known { IfOk result (λ n. is_code n ≡ true) }
 {
-    match number_due(t) {
-        Err(f) => Err(f),
-        Ok(n) => {
-            if known(n) {
-                Ok(n)
-            } else {
-                Err(fault_at(ReadCode::UnknownCode, n, 0, t))
-            }
-        }
+    let n = number_due(t)?;
+    if known(n) {
+        Ok(n)
+    } else {
+        Err(fault_at(ReadCode::UnknownCode, n, 0, t))
     }
 }
 
@@ -224,12 +220,7 @@ impl ChainReader {
         requires { Waits self.old }
         ensures { TakesChain (chain_left self.old) t.now self.new result }
     {
-        match self.step(t) {
-            Err(e) => Err(e),
-            Ok(()) => match self.settle() {
-                Err(_) => Err(ReadStop::NoMemory),
-                Ok(form) => Ok(form),
-            },
-        }
+        self.step(t)?;
+        Ok(self.settle()?)
     }
 }

@@ -90,10 +90,7 @@ pub fn framed(alloc: Global, frames: &mut Frames, leaf: Curve3) -> Result<Curve3
 {
     let mut curve = leaf;
     'frames: while let Some(frame) = frames.pop() {
-        match around(alloc, frame, curve) {
-            Ok(c) => curve = c,
-            Err(e) => return Err(e),
-        }
+        curve = around(alloc, frame, curve)?;
     }
     Ok(curve)
 }

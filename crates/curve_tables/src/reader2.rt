@@ -51,16 +51,12 @@ impl Curve2Reader {
         ensures { Takes (curve2_left self.old) t.now (curve2_left self.new)
             (IsWaiting2 self.new) (IsDone2 self.new) result }
     {
-        match self.chain.take(t) {
-            Err(e) => Err(e),
-            Ok(None) => Ok(Progress::More),
-            Ok(Some(form)) => match assemble(&mut self.chain, form) {
-                Err(_) => Err(ReadStop::NoMemory),
-                Ok(curve) => {
-                    self.whole = Some(curve);
-                    Ok(Progress::Whole)
-                }
-            },
+        match self.chain.take(t)? {
+            None => Ok(Progress::More),
+            Some(form) => {
+                self.whole = Some(assemble(&mut self.chain, form)?);
+                Ok(Progress::Whole)
+            }
         }
     }
 

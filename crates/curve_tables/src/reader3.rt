@@ -53,16 +53,12 @@ impl Curve3Reader {
         ensures { Takes (curve3_left self.old) t.now (curve3_left self.new)
             (IsWaiting3 self.new) (IsDone3 self.new) result }
     {
-        match self.chain.take(t) {
-            Err(e) => Err(e),
-            Ok(None) => Ok(Progress::More),
-            Ok(Some(form)) => match assemble(&mut self.chain, form) {
-                Err(_) => Err(ReadStop::NoMemory),
-                Ok(curve) => {
-                    self.whole = Some(curve);
-                    Ok(Progress::Whole)
-                }
-            },
+        match self.chain.take(t)? {
+            None => Ok(Progress::More),
+            Some(form) => {
+                self.whole = Some(assemble(&mut self.chain, form)?);
+                Ok(Progress::Whole)
+            }
         }
     }
 

@@ -43,15 +43,11 @@ fn code_due(t: &Token) -> Result<u64, ReadFault>
     ensures answer { Answers code_at t.now result }
     ensures known { IfOk result (λ n. (n ≡ 1) ⊎ (n ≡ 2)) }
 {
-    match number_due(t) {
-        Err(f) => Err(f),
-        Ok(n) => {
-            if n == 1 || n == 2 {
-                Ok(n)
-            } else {
-                Err(fault_at(ReadCode::UnknownCode, n, 0, t))
-            }
-        }
+    let n = number_due(t)?;
+    if n == 1 || n == 2 {
+        Ok(n)
+    } else {
+        Err(fault_at(ReadCode::UnknownCode, n, 0, t))
     }
 }
 
@@ -108,17 +104,13 @@ impl LocationReader {
         requires { 0 < self.old.texts.due }
         ensures { (before : List LocationEntry) → TakesAt stages.Decimals before self.old t.now self.new result }
     {
-        match self.texts.take(t) {
-            Err(e) => Err(e),
-            Ok(()) => {
-                if self.texts.due == 0 {
-                    self.stage = Stage::WholeDatum;
-                    Ok(Progress::Whole)
-                } else {
-                    self.stage = Stage::Decimals;
-                    Ok(Progress::More)
-                }
-            }
+        self.texts.take(t)?;
+        if self.texts.due == 0 {
+            self.stage = Stage::WholeDatum;
+            Ok(Progress::Whole)
+        } else {
+            self.stage = Stage::Decimals;
+            Ok(Progress::More)
         }
     }
 
@@ -171,17 +163,11 @@ impl LocationReader {
         requires earlier { place ≤ length before.now }
         ensures { TakesAt (stages.Power place) before.now self.old t.now self.new result }
     {
-        match factor_at(&self.word, before.word(place), power, t) {
-            Err(stop) => Err(stop),
-            Ok(word) => {
-                self.word = word;
-                self.stage = Stage::Place;
-                match self.factors.push(Factor { place, power }) {
-                    Err(_) => Err(ReadStop::NoMemory),
-                    Ok(()) => Ok(Progress::More),
-                }
-            }
-        }
+        let word = factor_at(&self.word, before.word(place), power, t)?;
+        self.word = word;
+        self.stage = Stage::Place;
+        self.factors.push(Factor { place, power })?;
+        Ok(Progress::More)
     }
 
     /// The entry. The last token that was taken made it whole.

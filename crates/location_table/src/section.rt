@@ -101,10 +101,7 @@ impl Locations {
     {
         let mut word = Word::identity(*self.held.words.allocator());
         for factor in factors.as_slice() {
-            match self.onto(&word, *factor) {
-                Ok(w) => word = w,
-                Err(e) => return Err(e),
-            }
+            word = self.onto(&word, *factor)?;
         }
         Ok(word)
     }

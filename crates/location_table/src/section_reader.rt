@@ -43,21 +43,16 @@ impl LocationsReader {
         requires { IsReading self.old }
         ensures { TakesLocations self.old t.now self.new result }
     {
-        match self.reader.take(t, &self.section) {
-            Err(e) => Err(e),
-            Ok(Progress::More) => Ok(Progress::More),
-            Ok(Progress::Whole) => {
+        match self.reader.take(t, &self.section)? {
+            Progress::More => Ok(Progress::More),
+            Progress::Whole => {
                 let reader = mem::replace(&mut self.reader, LocationReader::new(self.alloc));
-                match reader.add_to(&mut self.section) {
-                    Err(_) => Err(ReadStop::NoMemory),
-                    Ok(()) => {
-                        self.due -= 1;
-                        if self.due == 0 {
-                            Ok(Progress::Whole)
-                        } else {
-                            Ok(Progress::More)
-                        }
-                    }
+                reader.add_to(&mut self.section)?;
+                self.due -= 1;
+                if self.due == 0 {
+                    Ok(Progress::Whole)
+                } else {
+                    Ok(Progress::More)
                 }
             }
         }

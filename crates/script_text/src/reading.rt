@@ -173,10 +173,7 @@ fn mentions(alloc: Global, line: &[u8]) -> Result<Option<Mentions>, AllocError>
     'words: while let Some((word, rest)) = first_word(left) {
         match mention(word) {
             None => return Ok(None),
-            Some(mention) => match all.push(mention) {
-                Err(e) => return Err(e),
-                Ok(()) => {}
-            },
+            Some(mention) => all.push(mention)?,
         }
         left = rest;
     }
@@ -230,10 +227,8 @@ fn numbers(alloc: Global, mentions: &[Mention]) -> Result<HashSet<u64>, AllocErr
 fn distinct(alloc: Global, mentions: &[Mention]) -> Result<bool, AllocError>
     ensures { IfOk result (λ b. b ≡ are_distinct mentions.now) }
 {
-    match numbers(alloc, mentions) {
-        Err(e) => Err(e),
-        Ok(set) => Ok(set.len() == mentions.len()),
-    }
+    let set = numbers(alloc, mentions)?;
+    Ok(set.len() == mentions.len())
 }
 
 fn named(alloc: Global, mentions: &[Mention]) -> Result<bool, AllocError>
@@ -251,10 +246,10 @@ fn merge(alloc: Global, mentions: Mentions) -> Result<Option<Phrase>, AllocError
     if !all_bare(mentions.as_slice()) {
         return Ok(None);
     }
-    match named(alloc, mentions.as_slice()) {
-        Err(e) => Err(e),
-        Ok(true) => Ok(Some(Phrase::Merge(mentions))),
-        Ok(false) => Ok(None),
+    if named(alloc, mentions.as_slice())? {
+        Ok(Some(Phrase::Merge(mentions)))
+    } else {
+        Ok(None)
     }
 }
 
@@ -264,30 +259,28 @@ fn sewing(alloc: Global, mentions: Mentions) -> Result<Option<Phrase>, AllocErro
     if !sewn(mentions.as_slice()) {
         return Ok(None);
     }
-    match named(alloc, mentions.as_slice()) {
-        Err(e) => Err(e),
-        Ok(true) => Ok(Some(Phrase::Sew(mentions))),
-        Ok(false) => Ok(None),
+    if named(alloc, mentions.as_slice())? {
+        Ok(Some(Phrase::Sew(mentions)))
+    } else {
+        Ok(None)
     }
 }
 
 fn merging(alloc: Global, line: &[u8]) -> Result<Option<Phrase>, AllocError>
     ensures { IfOk result (λ p. p ≡ option_and_then merge_of (mentions_from [] (words_of line.now))) }
 {
-    match mentions(alloc, line) {
-        Err(e) => Err(e),
-        Ok(None) => Ok(None),
-        Ok(Some(mentions)) => merge(alloc, mentions),
+    match mentions(alloc, line)? {
+        None => Ok(None),
+        Some(mentions) => merge(alloc, mentions),
     }
 }
 
 fn sewing_line(alloc: Global, line: &[u8]) -> Result<Option<Phrase>, AllocError>
     ensures { IfOk result (λ p. p ≡ option_and_then sewing_of (mentions_from [] (words_of line.now))) }
 {
-    match mentions(alloc, line) {
-        Err(e) => Err(e),
-        Ok(None) => Ok(None),
-        Ok(Some(mentions)) => sewing(alloc, mentions),
+    match mentions(alloc, line)? {
+        None => Ok(None),
+        Some(mentions) => sewing(alloc, mentions),
     }
 }
 

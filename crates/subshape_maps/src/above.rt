@@ -191,8 +191,6 @@ pub fn ancestors(
     let seen = all_shapes(alloc, pool, words, at)?;
     let lows = of_kind(alloc, pool, &seen, Some(low))?;
     let highs = of_kind(alloc, pool, &seen, Some(high))?;
-    match all_above(alloc, pool, words, &lows, &highs) {
-        Ok(rows) => Ok(ListOf::from_vec(rows)),
-        Err(fault) => Err(fault),
-    }
+    let rows = all_above(alloc, pool, words, &lows, &highs)?;
+    Ok(ListOf::from_vec(rows))
 }

@@ -306,10 +306,8 @@ impl PartReader {
         ensures part { StepsPart (at_stage (stages.Texts form) self.old) t.now self.new result }
         ensures nest { self.new.nest ≡ self.old.nest }
     {
-        match self.texts.take(t) {
-            Err(e) => Err(e),
-            Ok(()) => Ok(self.past_texts(form)),
-        }
+        self.texts.take(t)?;
+        Ok(self.past_texts(form))
     }
 
     fn take_uknot(&mut self, t: &Token, net: Net, vknots: u64) -> Result<Option<Part>, ReadStop>
@@ -318,10 +316,8 @@ impl PartReader {
         ensures part { StepsPart (at_stage (stages.Uknots net vknots) self.old) t.now self.new result }
         ensures nest { self.new.nest ≡ self.old.nest }
     {
-        match self.uknots.take(t) {
-            Err(e) => Err(e),
-            Ok(()) => Ok(self.past_uknots(net, vknots)),
-        }
+        self.uknots.take(t)?;
+        Ok(self.past_uknots(net, vknots))
     }
 
     fn take_vknot(&mut self, t: &Token, net: Net) -> Result<Option<Part>, ReadStop>
@@ -330,10 +326,8 @@ impl PartReader {
         ensures part { StepsPart (at_stage (stages.Vknots net) self.old) t.now self.new result }
         ensures nest { self.new.nest ≡ self.old.nest }
     {
-        match self.vknots.take(t) {
-            Err(e) => Err(e),
-            Ok(()) => Ok(self.past_vknots(net)),
-        }
+        self.vknots.take(t)?;
+        Ok(self.past_vknots(net))
     }
 
     fn take_curve(&mut self, t: &Token, code: u8) -> Result<Option<Part>, ReadStop>
@@ -343,10 +337,9 @@ impl PartReader {
         ensures part { StepsPart (at_stage (stages.Curve code) self.old) t.now self.new result }
         ensures nest { self.new.nest ≡ self.old.nest }
     {
-        match self.curve.take(t) {
-            Err(e) => Err(e),
-            Ok(Progress::More) => Ok(None),
-            Ok(Progress::Whole) => {
+        match self.curve.take(t)? {
+            Progress::More => Ok(None),
+            Progress::Whole => {
                 let reader = mem::replace(&mut self.curve, Curve3Reader::new(self.alloc, 0));
                 let curve = reader.done();
                 let texts = taken(self.alloc, &mut self.texts);

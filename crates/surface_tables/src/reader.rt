@@ -74,13 +74,9 @@ impl SurfaceReader {
         requires { IsWaiting self.old }
         ensures { TakesSurface self.old t.now self.new result }
     {
-        match self.part.take(t) {
-            Err(e) => Err(e),
-            Ok(None) => Ok(Progress::More),
-            Ok(Some(part)) => match self.close(part) {
-                Err(_) => Err(ReadStop::NoMemory),
-                Ok(progress) => Ok(progress),
-            },
+        match self.part.take(t)? {
+            None => Ok(Progress::More),
+            Some(part) => Ok(self.close(part)?),
         }
     }
 

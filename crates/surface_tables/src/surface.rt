@@ -85,10 +85,7 @@ pub fn framed(alloc: Global, frames: &mut Frames, leaf: Surface) -> Result<Surfa
 {
     let mut surface = leaf;
     'frames: while let Some(frame) = frames.pop() {
-        match around(alloc, frame, surface) {
-            Ok(s) => surface = s,
-            Err(e) => return Err(e),
-        }
+        surface = around(alloc, frame, surface)?;
     }
     Ok(surface)
 }

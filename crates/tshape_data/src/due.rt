@@ -101,10 +101,8 @@ fn size_of(bounds: &HeadBounds, table: Table) -> u32
 pub fn index_due(low: u32, high: u32, t: &Token) -> Result<u32, ReadFault>
     ensures { Answers (ranged_at low high) t.now result }
 {
-    match ranged_due(u64::from(low), u64::from(high), t) {
-        Err(f) => Err(f),
-        Ok(n) => Ok(n as u32),
-    }
+    let n = ranged_due(u64::from(low), u64::from(high), t)?;
+    Ok(n as u32)
 }
 
 /// A number of a representation is due.
@@ -115,9 +113,6 @@ pub fn column_due(bounds: &HeadBounds, column: Column, t: &Token) -> Result<u32,
     match column {
         Column::Entry(table) => index_due(1, size_of(bounds, table), t),
         Column::Location => index_due(0, bounds.locations, t),
-        Column::Continuity => match continuity_due(t) {
-            Err(f) => Err(f),
-            Ok(place) => Ok(u32::from(place)),
-        },
+        Column::Continuity => Ok(u32::from(continuity_due(t)?)),
     }
 }

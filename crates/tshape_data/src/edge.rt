@@ -15,14 +15,10 @@ impl HeadReader {
     pub(crate) fn take_edge_tolerance(&mut self, t: &Token) -> Result<Progress, ReadStop>
         ensures { TakesAt stages.Tolerance self.old t.now self.new result }
     {
-        match tolerance_due(self.alloc, t) {
-            Err(e) => Err(e),
-            Ok(texts) => {
-                self.texts = DecimalsDue { texts, due: 0 };
-                self.stage = Stage::SameParameter;
-                Ok(Progress::More)
-            }
-        }
+        let texts = tolerance_due(self.alloc, t)?;
+        self.texts = DecimalsDue { texts, due: 0 };
+        self.stage = Stage::SameParameter;
+        Ok(Progress::More)
     }
 
     pub(crate) fn take_same_parameter(&mut self, t: &Token) -> Result<Progress, ReadStop>
@@ -94,13 +90,12 @@ impl HeadReader {
         requires { EdgesWait self.old.edges }
         ensures { TakesAt (stages.EdgeReps flags) self.old t.now self.new result }
     {
-        match self.edges.take(t) {
-            Err(e) => Err(e),
-            Ok(Progress::More) => {
+        match self.edges.take(t)? {
+            Progress::More => {
                 self.stage = Stage::EdgeReps { flags };
                 Ok(Progress::More)
             }
-            Ok(Progress::Whole) => {
+            Progress::Whole => {
                 self.stage = Stage::Flags {
                     fields: Fields::Edge { flags },
                 };

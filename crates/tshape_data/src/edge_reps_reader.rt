@@ -165,18 +165,16 @@ impl EdgeRepsReader {
             EdgeStage::Form => Ok(Progress::More),
             EdgeStage::Numbers { form } => {
                 if self.columns.len == edge_columns(form).len() {
-                    match self.past_numbers(form) {
-                        Err(e) => Err(e),
-                        Ok(()) => Ok(Progress::More),
-                    }
+                    self.past_numbers(form)?;
+                    Ok(Progress::More)
                 } else {
                     Ok(Progress::More)
                 }
             }
-            EdgeStage::Texts { form } => match self.past_texts(form) {
-                Err(e) => Err(e),
-                Ok(()) => Ok(Progress::More),
-            },
+            EdgeStage::Texts { form } => {
+                self.past_texts(form)?;
+                Ok(Progress::More)
+            }
             EdgeStage::Whole => Ok(Progress::Whole),
         }
     }
@@ -187,12 +185,7 @@ impl EdgeRepsReader {
         requires { IsWaiting self.old }
         ensures { TakesEdges self.old t.now self.new result }
     {
-        match self.step(t) {
-            Err(e) => Err(e),
-            Ok(()) => match self.settle() {
-                Err(_) => Err(ReadStop::NoMemory),
-                Ok(p) => Ok(p),
-            },
-        }
+        self.step(t)?;
+        Ok(self.settle()?)
     }
 }

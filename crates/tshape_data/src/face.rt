@@ -30,14 +30,10 @@ impl HeadReader {
     ) -> Result<Progress, ReadStop>
         ensures { TakesAt (stages.FaceTolerance natural) self.old t.now self.new result }
     {
-        match tolerance_due(self.alloc, t) {
-            Err(e) => Err(e),
-            Ok(texts) => {
-                self.texts = DecimalsDue { texts, due: 0 };
-                self.stage = Stage::Surface { natural };
-                Ok(Progress::More)
-            }
-        }
+        let texts = tolerance_due(self.alloc, t)?;
+        self.texts = DecimalsDue { texts, due: 0 };
+        self.stage = Stage::Surface { natural };
+        Ok(Progress::More)
     }
 
     pub(crate) fn take_surface(&mut self, t: &Token, natural: bool) -> Result<Progress, ReadStop>

@@ -63,15 +63,11 @@ pub fn edge_form_due(room: u64, t: &Token) -> Result<Option<EdgeForm>, ReadFault
     ensures answer { Answers (edge_form_at room) t.now result }
     ensures open { IfOk result (λ form. IfSome form (λ f. 0 < room)) }
 {
-    match number_due(t) {
-        Err(f) => Err(f),
-        Ok(n) => {
-            if n == 0 {
-                Ok(None)
-            } else {
-                in_room(room, n, edge_form(n), t)
-            }
-        }
+    let n = number_due(t)?;
+    if n == 0 {
+        Ok(None)
+    } else {
+        in_room(room, n, edge_form(n), t)
     }
 }
 
@@ -84,16 +80,12 @@ pub fn point_form_due(
     ensures answer { Answers (point_form_at param.now room) t.now result }
     ensures open { IfOk result (λ form. IfSome form (λ f. 0 < room)) }
 {
-    match number_due(t) {
-        Err(f) => Err(f),
-        Ok(n) => {
-            if n != 0 {
-                in_room(room, n, point_form(n), t)
-            } else if param.bytes() == b"0".as_slice() {
-                Ok(None)
-            } else {
-                Err(fault_at(ReadCode::UnknownCode, 0, 0, t))
-            }
-        }
+    let n = number_due(t)?;
+    if n != 0 {
+        in_room(room, n, point_form(n), t)
+    } else if param.bytes() == b"0".as_slice() {
+        Ok(None)
+    } else {
+        Err(fault_at(ReadCode::UnknownCode, 0, 0, t))
     }
 }

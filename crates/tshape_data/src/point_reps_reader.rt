@@ -193,10 +193,8 @@ impl PointRepsReader {
             }
             PointStage::Numbers { form } => {
                 if self.columns.len == point_columns(form).len() {
-                    match self.past_numbers(form) {
-                        Err(e) => Err(e),
-                        Ok(()) => Ok(Progress::More),
-                    }
+                    self.past_numbers(form)?;
+                    Ok(Progress::More)
                 } else {
                     Ok(Progress::More)
                 }
@@ -211,12 +209,7 @@ impl PointRepsReader {
         requires { IsWaiting self.old }
         ensures { TakesPoints self.old t.now self.new result }
     {
-        match self.step(t) {
-            Err(e) => Err(e),
-            Ok(()) => match self.settle() {
-                Err(_) => Err(ReadStop::NoMemory),
-                Ok(p) => Ok(p),
-            },
-        }
+        self.step(t)?;
+        Ok(self.settle()?)
     }
 }

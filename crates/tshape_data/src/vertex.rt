@@ -15,18 +15,14 @@ impl HeadReader {
         requires { 0 < self.old.texts.due }
         ensures { TakesAt stages.VertexTexts self.old t.now self.new result }
     {
-        match self.texts.take(t) {
-            Err(e) => Err(e),
-            Ok(()) => {
-                if self.texts.due == 0 {
-                    self.points = PointRepsReader::new(self.alloc, self.bounds, room(&self.bounds));
-                    self.stage = Stage::Points;
-                    Ok(Progress::More)
-                } else {
-                    self.stage = Stage::VertexTexts;
-                    Ok(Progress::More)
-                }
-            }
+        self.texts.take(t)?;
+        if self.texts.due == 0 {
+            self.points = PointRepsReader::new(self.alloc, self.bounds, room(&self.bounds));
+            self.stage = Stage::Points;
+            Ok(Progress::More)
+        } else {
+            self.stage = Stage::VertexTexts;
+            Ok(Progress::More)
         }
     }
 
@@ -35,13 +31,12 @@ impl HeadReader {
         requires { PointsWait self.old.points }
         ensures { TakesAt stages.Points self.old t.now self.new result }
     {
-        match self.points.take(t) {
-            Err(e) => Err(e),
-            Ok(Progress::More) => {
+        match self.points.take(t)? {
+            Progress::More => {
                 self.stage = Stage::Points;
                 Ok(Progress::More)
             }
-            Ok(Progress::Whole) => {
+            Progress::Whole => {
                 self.stage = Stage::Flags {
                     fields: Fields::Vertex,
                 };

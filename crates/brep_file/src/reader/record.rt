@@ -92,10 +92,9 @@ impl RecordReader {
         requires waits { record_waits_at None so_far.now.uses so_far.now.reps self.old }
         ensures { TakesRecordAt None bounds so_far.now self.old t.now self.new result }
     {
-        match self.reader.take(t) {
-            Err(e) => Err(e),
-            Ok(Progress::More) => Ok(Progress::More),
-            Ok(Progress::Whole) => {
+        match self.reader.take(t)? {
+            Progress::More => Ok(Progress::More),
+            Progress::Whole => {
                 let next = head_reader(self.alloc, bounds, 0);
                 let reader = mem::replace(&mut self.reader, next);
                 self.head = Some(reader.done());

@@ -54,26 +54,17 @@ impl PartReader for RecordsReader {
     ghost whole = { λ r. r.due ≡ 0 };
 
     fn take_token(&mut self, t: &Token) -> Result<Progress, ReadStop> {
-        match self.reader.take(t, self.bounds, &self.so_far) {
-            Err(e) => Err(e),
-            Ok(Progress::More) => Ok(Progress::More),
-            Ok(Progress::Whole) => {
+        match self.reader.take(t, self.bounds, &self.so_far)? {
+            Progress::More => Ok(Progress::More),
+            Progress::Whole => {
                 let (head, gathered) = self.reader.done();
-                match self.so_far.push(head, gathered) {
-                    Err(_) => Err(ReadStop::NoMemory),
-                    Ok(()) => {
-                        self.due -= 1;
-                        if self.due == 0 {
-                            Ok(Progress::Whole)
-                        } else {
-                            self.reader = RecordReader::new(
-                                self.alloc,
-                                self.bounds,
-                                self.so_far.reps,
-                            );
-                            Ok(Progress::More)
-                        }
-                    }
+                self.so_far.push(head, gathered)?;
+                self.due -= 1;
+                if self.due == 0 {
+                    Ok(Progress::Whole)
+                } else {
+                    self.reader = RecordReader::new(self.alloc, self.bounds, self.so_far.reps);
+                    Ok(Progress::More)
                 }
             }
         }

@@ -13,13 +13,13 @@ returns-in-Some-clause-ended c =
     of_output-changed is_ended false _ _ _ _ _ _ (rw c.deref.ensures.value at c.in-Some.ensures.some.1)
     c.index_mut-output.ensures.value refl refl
 
-pub returns-in-Ok-push-clause-written : goal.returns-in-Ok-push-clause-written
-returns-in-Ok-push-clause-written c =
-    of_output-pushed bytes_of None _ _ _ _ _ c.in-Ok-push.ensures.items
-    (rw c.deref.ensures.value at c.in-None.ensures.none) c.in-Ok.ensures
+pub returns-in_ok-push-in-None-clause-written : goal.returns-in_ok-push-in-None-clause-written
+returns-in_ok-push-in-None-clause-written c =
+    of_output-pushed bytes_of None _ _ _ _ _ c.in_ok-push-in-None.ensures.items
+    (rw c.deref.ensures.value at c.in-None.ensures.none) c.in_ok-copy_name-in-None.ensures
     (ap Some (c.of.ensures ∙ c.new.ensures.items))
 
-pub returns-in-Ok-push-clause-ended : goal.returns-in-Ok-push-clause-ended
-returns-in-Ok-push-clause-ended c =
-    of_output-pushed is_ended false _ _ _ _ _ c.in-Ok-push.ensures.items
-    (rw c.deref.ensures.value at c.in-None.ensures.none) c.in-Ok.ensures refl
+pub returns-in_ok-push-in-None-clause-ended : goal.returns-in_ok-push-in-None-clause-ended
+returns-in_ok-push-in-None-clause-ended c =
+    of_output-pushed is_ended false _ _ _ _ _ c.in_ok-push-in-None.ensures.items
+    (rw c.deref.ensures.value at c.in-None.ensures.none) c.in_ok-copy_name-in-None.ensures refl

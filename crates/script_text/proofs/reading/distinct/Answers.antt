@@ -1,5 +1,5 @@
 use Rattle.script_text.proofs.Distinct.{set_tells}
 use Rattle.script_text.proofs.reading.distinct.Goals as goal
 
-pub returns-in-Ok : goal.returns-in-Ok
-returns-in-Ok c = set_tells c.args.mentions.now c.in-Ok.set c.len.result c.in-Ok.ensures c.len.ensures.len
+pub returns : goal.returns
+returns c = set_tells c.args.mentions.now c.in_ok-set.set c.len.result c.in_ok-set.ensures c.len.ensures.len

@@ -27,8 +27,8 @@ all_above-requires-clause-once c =
 pub all_above-requires-clause-places : goal.all_above-requires-clause-places
 all_above-requires-clause-places c = places-stay c.args.words.now c.all_shapes.new.words c.in_ok-seen.ensures.grows c.args.pool.now c.requires.places
 
-pub returns-clause-refused : goal.returns-clause-refused
-returns-clause-refused c =
+pub returns-in_err-rows-clause-refused : goal.returns-in_err-rows-clause-refused
+returns-in_err-rows-clause-refused c =
     let told : ShapesAreTold = shapes-told c.equal_trees_tell.ensures c.test_tells.ensures in
     let old = c.args.words.now in
     let mid = c.all_shapes.new.words in
@@ -37,20 +37,20 @@ returns-clause-refused c =
     map-is rows c.laws.ensures told mid old c.in_ok-seen.ensures.grows c.requires.places c.args.root c.requires.root c.requires.place (Some c.args.low) c.in_ok-seen.seen.keys c.in_ok-lows.lows c.in_ok-seen.ensures.met c.in_ok-lows.ensures in
     let highs : IsMap mid rows c.args.root (Some c.args.high) c.in_ok-highs.highs =
     map-is rows c.laws.ensures told mid old c.in_ok-seen.ensures.grows c.requires.places c.args.root c.requires.root c.requires.place (Some c.args.high) c.in_ok-seen.seen.keys c.in_ok-highs.highs c.in_ok-seen.ensures.met c.in_ok-highs.ensures in
-    λ kind kinds. due-above (occurrences_by old rows (root_at c.args.root)) (counted (rows_of mid rows c.in_ok-lows.lows c.in_ok-highs.highs)) (pairs_by old rows c.args.root kind c.args.low c.args.high) c.in-Err.fault
+    λ kind kinds. due-above (occurrences_by old rows (root_at c.args.root)) (counted (rows_of mid rows c.in_ok-lows.lows c.in_ok-highs.highs)) (pairs_by old rows c.args.root kind c.args.low c.args.high) c.in_err-rows.field-0
     c.in_ok-seen.ensures.met.within
     (pairs-are rows c.laws.ensures mid mid (λ i w e. e) (places-stay old mid c.in_ok-seen.ensures.grows rows c.requires.places) c.args.root c.args.low c.args.high c.in_ok-lows.lows c.in_ok-highs.highs lows highs
     old c.in_ok-seen.ensures.grows c.requires.places (c.requires.root, c.requires.place) kind kinds)
-    c.in-Err.ensures.refused
+    c.in_err-rows.ensures.refused
+
+pub returns-in_err-rows-clause-grows : goal.returns-in_err-rows-clause-grows
+returns-in_err-rows-clause-grows c = λ i w e. c.in_err-rows.ensures.grows i w (c.in_ok-seen.ensures.grows i w e)
 
 pub returns-clause-grows : goal.returns-clause-grows
-returns-clause-grows c = λ i w e. c.in-Err.ensures.grows i w (c.in_ok-seen.ensures.grows i w e)
+returns-clause-grows c = λ i w e. c.in_ok-rows.ensures.grows i w (c.in_ok-seen.ensures.grows i w e)
 
-pub returns-in-Ok-clause-grows : goal.returns-in-Ok-clause-grows
-returns-in-Ok-clause-grows c = λ i w e. c.in-Ok.ensures.grows i w (c.in_ok-seen.ensures.grows i w e)
-
-pub returns-in-Ok-clause-above : goal.returns-in-Ok-clause-above
-returns-in-Ok-clause-above c =
+pub returns-clause-above : goal.returns-clause-above
+returns-clause-above c =
     let told : ShapesAreTold = shapes-told c.equal_trees_tell.ensures c.test_tells.ensures in
     let old = c.args.words.now in
     let mid = c.all_shapes.new.words in
@@ -59,5 +59,5 @@ returns-in-Ok-clause-above c =
     map-is rows c.laws.ensures told mid old c.in_ok-seen.ensures.grows c.requires.places c.args.root c.requires.root c.requires.place (Some c.args.low) c.in_ok-seen.seen.keys c.in_ok-lows.lows c.in_ok-seen.ensures.met c.in_ok-lows.ensures in
     let highs : IsMap mid rows c.args.root (Some c.args.high) c.in_ok-highs.highs =
     map-is rows c.laws.ensures told mid old c.in_ok-seen.ensures.grows c.requires.places c.args.root c.requires.root c.requires.place (Some c.args.high) c.in_ok-seen.seen.keys c.in_ok-highs.highs c.in_ok-seen.ensures.met c.in_ok-highs.ensures in
-    ancestors-are rows c.laws.ensures mid c.all_above.new.words c.in-Ok.ensures.grows (places-stay old mid c.in_ok-seen.ensures.grows rows c.requires.places) c.args.root c.args.low c.args.high
-    c.in_ok-lows.lows c.in_ok-highs.highs lows highs c.from_vec.result (c.requires.root, still-held old mid c.in_ok-seen.ensures.grows c.args.root.place.0 c.requires.place) (c.from_vec.ensures ∙ c.in-Ok.ensures.rows)
+    ancestors-are rows c.laws.ensures mid c.all_above.new.words c.in_ok-rows.ensures.grows (places-stay old mid c.in_ok-seen.ensures.grows rows c.requires.places) c.args.root c.args.low c.args.high
+    c.in_ok-lows.lows c.in_ok-highs.highs lows highs c.from_vec.result (c.requires.root, still-held old mid c.in_ok-seen.ensures.grows c.args.root.place.0 c.requires.place) (c.from_vec.ensures ∙ c.in_ok-rows.ensures.rows)

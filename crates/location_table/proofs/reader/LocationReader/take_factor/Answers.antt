@@ -15,13 +15,13 @@ use Rattle.location_table.proofs.reader.LocationReader.take_factor.Goals as goal
 abbrev product : Read (List Factor) → Read LocationEntry
 product read = read >>= λ f. Ok (Product f.0, f.1)
 
-pub returns-in-Ok-push : goal.returns-in-Ok-push
-returns-in-Ok-push c =
+pub returns : goal.returns
+returns c =
     let q : to_z w64 (of_z w64 c.args.power) ≡ c.args.power = to_z-of_z w64 c.args.power c.ranges.power in
-    let e = c.in-Ok.ensures in
-    let pushed = rw q at c.in-Ok-push.ensures.ok in
-    let is = taken c.args.before.now c.args.self.now.factors (factor c.args.place c.args.power) c.in-Ok.word
-    c.args.self.now.word c.word.result.now (to_z w64 (of_z w64 c.args.power))
+    let e = c.in_ok-word.ensures in
+    let pushed = rw q at c.in_ok-push.ensures.ok in
+    let is = taken c.args.before.now c.args.self.now.factors (factor c.args.place c.args.power)
+    c.in_ok-word.word c.args.self.now.word c.word.result.now (to_z w64 (of_z w64 c.args.power))
     c.requires.holds.within c.requires.from c.requires.earlier c.requires.holds.word c.word.ensures.word q
     (record { passes = e.within; factors = e.factors; power_is = e.power; product = e.word; made = e.ok }) in (
       λ rest. ap (λ fs. product (factors_from (length c.args.before.now) (words_of c.args.before.now) fs rest)) pushed

@@ -5,8 +5,8 @@ use Rattle.surface_tables.specs.declared.part.Stage.TheVariants as stages
 use Rattle.surface_tables.proofs.Settling.{steps_settled}
 use Rattle.surface_tables.proofs.part.PartReader.take_uknot.Goals as goal
 
-pub returns-in-Ok-clause-part : goal.returns-in-Ok-clause-part
-returns-in-Ok-clause-part c =
+pub returns-clause-part : goal.returns-clause-part
+returns-clause-part c =
     steps_settled (at_stage (stages.Uknots c.args.net c.args.vknots) c.args.self.now) _ c.args.t.now
-    (λ rest. rw (c.in-Ok.ensures rest) refl) c.past_uknots.new.self c.past_uknots.result c.past_uknots.ensures.part
+    (λ rest. rw (c.in_ok-take.ensures rest) refl) c.past_uknots.new.self c.past_uknots.result c.past_uknots.ensures.part
     (rw c.past_uknots.ensures.nest c.requires.nested)

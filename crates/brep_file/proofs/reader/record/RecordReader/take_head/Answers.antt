@@ -6,9 +6,9 @@ use Rattle.brep_file.specs.RecordLeft.{bounds_of, so_far_of, uses_left}
 use Rattle.brep_file.proofs.UsesOpen.{waiting_open}
 use Rattle.brep_file.proofs.reader.record.RecordReader.take_head.Goals as goal
 
-pub returns-in-Ok-More : goal.returns-in-Ok-More
-returns-in-Ok-More c =
-    let took = rw c.in-Ok-More.field-0-is at c.in-Ok-More.ensures in
+pub returns-in-More : goal.returns-in-More
+returns-in-More c =
+    let took = rw c.in-More.is at c.in_ok-take.ensures in
     rw c.requires.none (
       λ rest. rw (took.0 rest) refl,
       rw took.1 refl,
@@ -19,9 +19,9 @@ returns-in-Ok-More c =
       },
     )
 
-pub returns-in-Ok-Whole : goal.returns-in-Ok-Whole
-returns-in-Ok-Whole c =
-    let took = rw c.in-Ok-Whole.field-0-is at c.in-Ok-Whole.ensures in
+pub returns-in-Whole : goal.returns-in-Whole
+returns-in-Whole c =
+    let took = rw c.in-Whole.is at c.in_ok-take.ensures in
     let read : (rest : List Token) → head_left c.args.self.now.reader (c.args.t.now ∷ rest) ≡ Ok (c.done.result, rest) =
     λ rest. sym (took.0 rest) ∙ rw (← c.replace-reader.ensures.value) (c.done.ensures rest) in
     let is_open : uses_left (bounds_of c.args.bounds) (so_far_of c.args.so_far.now) c.done.result.kind
