@@ -14,7 +14,7 @@ mod text_words;
 mod version;
 
 pub use decimal_form::decimal;
-pub use decimals::Decimals;
+pub use decimals::{Decimals, first_text};
 pub use fault::{Progress, ReadCode, ReadFault, ReadStop};
 pub use forms::{continuity, flag, number, power, use_sign};
 pub use numbers::Numbers;
