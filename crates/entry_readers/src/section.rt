@@ -50,21 +50,16 @@ impl<R: EntryReader> Section<R> {
             (entries_left R.read (R.left self.new.reader) self.new.entries.items self.new.due)
             ((0 < self.new.due) × R.waits self.new.reader) (self.new.due ≡ 0) result }
     {
-        match self.reader.take_token(t) {
-            Err(e) => Err(e),
-            Ok(Progress::More) => Ok(Progress::More),
-            Ok(Progress::Whole) => {
+        match self.reader.take_token(t)? {
+            Progress::More => Ok(Progress::More),
+            Progress::Whole => {
                 let reader = mem::replace(&mut self.reader, R::begin(self.alloc));
-                match append(&mut self.entries, reader.finish()) {
-                    Err(_) => Err(ReadStop::NoMemory),
-                    Ok(()) => {
-                        self.due -= 1;
-                        if self.due == 0 {
-                            Ok(Progress::Whole)
-                        } else {
-                            Ok(Progress::More)
-                        }
-                    }
+                append(&mut self.entries, reader.finish())?;
+                self.due -= 1;
+                if self.due == 0 {
+                    Ok(Progress::Whole)
+                } else {
+                    Ok(Progress::More)
                 }
             }
         }
