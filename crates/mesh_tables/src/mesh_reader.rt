@@ -177,15 +177,11 @@ impl MeshReader {
         requires { MeshWaits self.old }
         ensures { TakesMesh self.old t.now self.new result }
     {
-        match self.step(t) {
-            Err(e) => Err(e),
-            Ok(()) => {
-                if self.settle() {
-                    Ok(Progress::Whole)
-                } else {
-                    Ok(Progress::More)
-                }
-            }
+        self.step(t)?;
+        if self.settle() {
+            Ok(Progress::Whole)
+        } else {
+            Ok(Progress::More)
         }
     }
 

@@ -138,15 +138,11 @@ impl PolygonOnMeshReader {
         requires { PolygonOnWaits self.old }
         ensures { TakesPolygonOn self.old t.now self.new result }
     {
-        match self.step(t) {
-            Err(e) => Err(e),
-            Ok(()) => {
-                if self.settle() {
-                    Ok(Progress::Whole)
-                } else {
-                    Ok(Progress::More)
-                }
-            }
+        self.step(t)?;
+        if self.settle() {
+            Ok(Progress::Whole)
+        } else {
+            Ok(Progress::More)
         }
     }
 

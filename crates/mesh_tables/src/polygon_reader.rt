@@ -105,15 +105,11 @@ impl Polygon3Reader {
         requires { PolygonWaits self.old }
         ensures { TakesPolygon self.old t.now self.new result }
     {
-        match self.step(t) {
-            Err(e) => Err(e),
-            Ok(()) => {
-                if self.is_whole() {
-                    Ok(Progress::Whole)
-                } else {
-                    Ok(Progress::More)
-                }
-            }
+        self.step(t)?;
+        if self.is_whole() {
+            Ok(Progress::Whole)
+        } else {
+            Ok(Progress::More)
         }
     }
 
