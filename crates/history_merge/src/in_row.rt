@@ -1,10 +1,9 @@
 //! Two histories in a row.
-ghost use Rattle.std.specs.Prelude.{◌<◌, ◌↔◌, ◌⊎◌, Contains, IfOk, length};
+ghost use Rattle.std.specs.Prelude.{◌<◌, IfOk, length};
 ghost use Rattle.std.specs.List.Sorted.{IsStrictlySortedBy};
-ghost use Rattle.shape_pool.specs.declared.node.NodeId.{NodeId};
 ghost use Rattle.step_history.specs.Numbered.{pair_cmp, Ascends, IsHeld};
 ghost use Rattle.history_merge.specs.Chain.{IsChainAt, TellsChain};
-ghost use Rattle.history_merge.specs.Joined.{IsJoined};
+ghost use Rattle.history_merge.specs.Joined.{IsWhollyGenerated, Joins};
 
 use crate::joined::join;
 use shape_pool::{IdPairs, NodeId, Pool};
@@ -18,7 +17,7 @@ fn images_after(
     next: &[(NodeId, NodeId)],
 ) -> Result<IdPairs, AllocError>
     ensures order { IfOk result (IsStrictlySortedBy pair_cmp) }
-    ensures pairs { IfOk result (λ made. (y : NodeId × NodeId) → Contains made y ↔ IsJoined images.now next.now y) }
+    ensures pairs { IfOk result (Joins images.now next.now) }
 {
     let mut out = Vec::new(alloc);
     join(alloc, images, next, &mut out)?;
@@ -34,7 +33,7 @@ fn generated_after(
     next_generated: &[(NodeId, NodeId)],
 ) -> Result<IdPairs, AllocError>
     ensures order { IfOk result (IsStrictlySortedBy pair_cmp) }
-    ensures pairs { IfOk result (λ made. (y : NodeId × NodeId) → Contains made y ↔ (IsJoined images.now next_generated.now y ⊎ (IsJoined generated.now next_images.now y ⊎ IsJoined generated.now next_generated.now y))) }
+    ensures pairs { IfOk result (IsWhollyGenerated images.now generated.now next_images.now next_generated.now) }
 {
     let mut out = Vec::new(alloc);
     join(alloc, images, next_generated, &mut out)?;

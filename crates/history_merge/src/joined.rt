@@ -1,10 +1,10 @@
 //! Lists of pairs put together: sorted by their middle numbers, and gone through side by side.
-ghost use Rattle.std.specs.Prelude.{◌<◌, ◌≤◌, ◌↔◌, Contains, IfOk, OnOk, length, slice_index_or};
+ghost use Rattle.std.specs.Prelude.{◌<◌, ◌≤◌, ◌↔◌, Contains, IfOk, OnOk, length};
 ghost use Rattle.std.specs.List.Sorted.{IsStrictlySortedBy};
 ghost use Rattle.shape_pool.specs.declared.node.NodeId.{NodeId};
 ghost use Rattle.step_history.specs.Gathering.{Adds};
 ghost use Rattle.step_history.specs.Numbered.{pair_cmp};
-ghost use Rattle.history_merge.specs.Joined.{AreBefore, IsFollowed, IsJoined, IsOnto};
+ghost use Rattle.history_merge.specs.Joined.{AreBefore, IsFollowed, IsHere, IsJoined, IsOnto};
 
 use shape_pool::{IdPairs, NodeId};
 use std::alloc::{AllocError, Global};
@@ -28,7 +28,7 @@ fn skip(pairs: &[(NodeId, NodeId)], from: usize, middle: NodeId) -> usize
     requires before { AreBefore pairs.now from middle.0 }
     ensures within { result ≤ length pairs.now }
     ensures before { AreBefore pairs.now result middle.0 }
-    ensures here { (d : NodeId × NodeId) → result < length pairs.now → middle.0 ≤ (slice_index_or pairs.now result d).0.0 }
+    ensures here { IsHere pairs.now result middle.0 }
 {
     for at in from..pairs.len() {
         if pairs[at].0.0 >= middle.0 {
@@ -38,7 +38,8 @@ fn skip(pairs: &[(NodeId, NodeId)], from: usize, middle: NodeId) -> usize
     pairs.len()
 }
 
-/// Adds the pairs of a number and each with which a middle one is paired, from the place on where the middle one comes first.
+/// Adds the pairs of a number and each with which a middle one is paired, from the place on where the middle one comes
+/// first.
 fn spread(
     pairs: &[(NodeId, NodeId)],
     from: usize,
@@ -49,7 +50,7 @@ fn spread(
     requires order { IsStrictlySortedBy pair_cmp pairs.now }
     requires within { from ≤ length pairs.now }
     requires before { AreBefore pairs.now from middle.0 }
-    requires here { (d : NodeId × NodeId) → from < length pairs.now → middle.0 ≤ (slice_index_or pairs.now from d).0.0 }
+    requires here { IsHere pairs.now from middle.0 }
     ensures { OnOk result (Adds (IsOnto pairs.now middle first) out.old.items out.new.items) }
 {
     for at in from..pairs.len() {

@@ -1,4 +1,4 @@
-//! The history over several steps: the one over no step, with which it begins, and the laws by which histories are put together.
+//! The history over several steps: the one over no step, with which it begins, and those of two histories in a row.
 #![tactic(auto)]
 
 mod in_row;

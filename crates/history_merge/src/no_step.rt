@@ -35,7 +35,8 @@ fn stays_of(alloc: Global, pool: &Pool, input: &Met) -> Result<IdPairs, AllocErr
     Ok(ascending_pairs(pairs))
 }
 
-/// The history over no step: each shape of the root of which histories speak is its own image, and nothing is generated or removed.
+/// The history over no step: each shape of the root of which histories speak is its own image, and nothing is generated
+/// or removed.
 pub fn start(pool: &Pool, root: NodeId) -> Result<StepHistory, AllocError>
     requires { root.0 < length pool.now }
     ensures told { IfOk result (TellsStart pool.now root.0) }

@@ -1,6 +1,7 @@
 -- What is gathered from lists, and which numbers are met on a walk below nodes.
-use Rattle.std.specs.Prelude.{◌≡◌, ◌⊎◌, ◌↔◌, ◌<◌, ℕ, List, [], ◌∷◌, ◌++◌, Contains}
+use Rattle.std.specs.Prelude.{◌≡◌, ◌⊎◌, ◌↔◌, ◌<◌, ℕ, List, [], ◌∷◌, ◌++◌, Contains, IsTrue}
 use Rattle.orientation.specs.Kinds.{rank_of}
+use Rattle.orientation.specs.Rules.{is_above}
 use Rattle.graph_walks.specs.Walks.{Reaches}
 use Rattle.shape_pool.specs.declared.node.NodeId.{NodeId}
 use Rattle.shape_pool.specs.Rows.{Row, kind_at}
@@ -47,6 +48,10 @@ module _ (rows : List Row) where
     pub supported : IsSupported (kind_at rows s)
     pub lower : rank_of (kind_at rows s) < rank_of (kind_at rows t)
     pub fresh_one : Contains fresh s
+
+  -- what is told of such a number by tests
+  abbrev pub IsNewOf : List ℕ → ℕ → ℕ → Type 0
+  IsNewOf fresh t s = IsSupported (kind_at rows s) × IsTrue (is_above (kind_at rows s) (kind_at rows t)) × Contains fresh s
 
   -- a pair of a number and one that came new of it
   abbrev pub IsPair : List ℕ → NodeId → ℕ → NodeId × NodeId → Type 0

@@ -4,7 +4,7 @@ ghost use Rattle.std.specs.List.Sorted.{IsStrictlySortedBy};
 ghost use Rattle.orientation.specs.Rules.{is_above};
 ghost use Rattle.shape_pool.specs.Rows.{kind_at};
 ghost use Rattle.step_history.specs.History.{IsSupported};
-ghost use Rattle.step_history.specs.Gathering.{Adds, Gathers, IsMadeOf, IsPair, IsPicked, IsWalk};
+ghost use Rattle.step_history.specs.Gathering.{Adds, Gathers, IsMadeOf, IsNewOf, IsPair, IsPicked, IsWalk};
 ghost use Rattle.step_history.specs.Numbered.{pair_cmp, ArePairsHeld};
 
 use crate::ascending::{ascending_copy, ascending_pairs};
@@ -45,7 +45,7 @@ fn is_lower(low: Kind, high: Kind) -> bool
 fn came_new(pool: &Pool, fresh: &Met, from: NodeId, id: u32) -> bool
     requires from { from.0 < length pool.now }
     requires id { id < length pool.now }
-    ensures { IsTrue result ↔ (IsSupported (kind_at pool.now id) × IsTrue (is_above (kind_at pool.now id) (kind_at pool.now from.0)) × Contains fresh.now id) }
+    ensures { IsTrue result ↔ IsNewOf pool.now fresh.now from.0 id }
 {
     let kind = pool.kind(NodeId(id));
     is_spoken_of(kind) && is_lower(kind, pool.kind(from)) && fresh.has(id)
