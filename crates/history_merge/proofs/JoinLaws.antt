@@ -14,10 +14,11 @@ use Rattle.lists.proofs.Each.{each-contains}
 use Rattle.lists.proofs.Members.{Contains-none}
 use Rattle.lists.proofs.Places.{Contains-at, place_of, row-taken, take-at, taken-row}
 use Rattle.shape_pool.specs.declared.node.NodeId.{NodeId}
-use Rattle.step_history.specs.Gathering.{Adds}
+use Rattle.lists.specs.Gathering.{Adds}
 use Rattle.step_history.specs.Numbered.{pair_cmp}
 use Rattle.history_merge.specs.Joined.{AreBefore, IsFollowed, IsJoined, IsOnto}
-use Rattle.history_merge.proofs.GatherLaws.{adds-nothing, adds-one, named_by}
+use Rattle.lists.proofs.Gathering.{adds-nothing, adds-one}
+use Rattle.history_merge.proofs.GatherLaws.{named_by}
 
 abbrev pub any_pair : NodeId × NodeId
 any_pair = (record { 0 = 0 }, record { 0 = 0 })

@@ -14,8 +14,9 @@ use Rattle.shape_pool.specs.Laws.{IsSound}
 use Rattle.step_history.specs.declared.history.StepHistory.{StepHistory}
 use Rattle.step_history.specs.History.{IsSupported}
 use Rattle.step_history.specs.Composition.{no_history}
-use Rattle.step_history.specs.Gathering.{Gathers}
-use Rattle.step_history.specs.Numbered.{IsHeld, IsReading, OccursAt, Tells, tree_by}
+use Rattle.lists.specs.Gathering.{Gathers}
+use Rattle.step_history.specs.Numbered.{AreBelow, IsHeld, IsReading, OccursAt, Tells, tree_by}
+use Rattle.step_history.proofs.StepLaws.{occurs-held}
 use Rattle.history_merge.specs.Merged.{IsStartAt, Stays}
 
 pub sorted-nothing : {X : Type 0} (c : X → X → Ordering) (xs : List X) → xs ≡ [] → IsStrictlySortedBy c xs
@@ -25,14 +26,7 @@ sorted-nothing c xs e = subst (IsStrictlySortedBy c) (sym e) tt
 nothing : {X : Type 0} (xs : List X) (x : X) → xs ≡ [] → Contains xs x → ⊥
 nothing xs x e m = Contains-none x (subst (λ l. Contains l x) e m)
 
-occurs-held : (rows : List Row) → IsSound rows → (root : ℕ) → root < length rows → (i : ℕ) → OccursAt rows root i → i < length rows
-occurs-held rows sound root held i r = let le = sound.ids_of_subtrees.held root i held r in omega (arith, le, held)
-
-pub nodes-held : (rows : List Row) → IsSound rows → (root : ℕ) → root < length rows → (met : List ℕ) → ((i : ℕ) → Contains met i ↔ OccursAt rows root i) →
-    All (λ i. i < length rows) met
-nodes-held rows sound root held met is = All-from_members (λ i. i < length rows) met (λ i m. occurs-held rows sound root held i ((is i).0 m))
-
-pub start-at : (rows : List Row) (root : ℕ) (input : List ℕ) (h : StepHistory) → ((i : ℕ) → Contains input i ↔ OccursAt rows root i) →
+pub start-at : (rows : List Row) (root : ℕ) (input : List ℕ) (h : StepHistory) → AreBelow rows root input →
     Gathers (Stays rows) input h.images → h.generated ≡ [] → h.removed ≡ [] → IsStartAt rows root h
 start-at rows root input h ins stays none none' = record { images = λ t s. (there t s, back t s); generated = none; removed = none' }
   where

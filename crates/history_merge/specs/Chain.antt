@@ -8,7 +8,7 @@ use Rattle.shape_pool.specs.Rows.{Row, tree_at}
 use Rattle.step_history.specs.declared.history.StepHistory.{StepHistory}
 use Rattle.step_history.specs.Changes.{history_by}
 use Rattle.step_history.specs.Composition.{Done, history_after}
-use Rattle.step_history.specs.Numbered.{IsGoneAt, IsReading, Tells, tree_by}
+use Rattle.step_history.specs.Numbered.{AreGone, IsReading, Tells, tree_by}
 use Rattle.history_merge.specs.Joined.{IsJoined}
 
 -- The images then the images; the images then what was generated, what was generated then the images, and what was generated then
@@ -17,7 +17,7 @@ pub record IsChainAt (rows : List Row) (first last : ℕ) (a b h : StepHistory) 
   pub images : (y : NodeId × NodeId) → Contains h.images y ↔ IsJoined a.images b.images y
   pub generated : (y : NodeId × NodeId) →
       Contains h.generated y ↔ (IsJoined a.images b.generated y ⊎ (IsJoined a.generated b.images y ⊎ IsJoined a.generated b.generated y))
-  pub removed : (t : NodeId) → Contains h.removed t ↔ IsGoneAt rows first last h.images t
+  pub removed : AreGone rows first last h.images h.removed
 
 -- under each reading: where the first history is that of steps in a row, and the second that of the step after them, the history is
 -- that of all these steps

@@ -8,7 +8,7 @@ ghost use Rattle.history_merge.specs.Joined.{IsWhollyGenerated, Joins};
 use crate::joined::join;
 use shape_pool::{IdPairs, NodeId, Pool};
 use std::alloc::{AllocError, Global};
-use step_history::{StepHistory, ascending_pairs, firsts_of, lost_of, nodes_of};
+use step_history::{StepHistory, ascending_pairs, nodes_of, removed_of};
 
 /// The images of the first history, and then those of the second.
 fn images_after(
@@ -70,8 +70,7 @@ pub fn chain(
     let images = images_after(alloc, a_images, b_images)?;
     let generated = generated_after(alloc, a_images, a_generated, b_images, b_generated)?;
     let pairs = images.as_slice();
-    let firsts = firsts_of(alloc, pairs)?;
-    let removed = lost_of(alloc, pool, &input, &output, &firsts)?;
+    let removed = removed_of(alloc, pool, &input, &output, pairs)?;
     Ok(StepHistory {
         images,
         generated,

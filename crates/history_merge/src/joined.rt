@@ -2,7 +2,7 @@
 ghost use Rattle.std.specs.Prelude.{◌<◌, ◌≤◌, ◌↔◌, Contains, IfOk, OnOk, length};
 ghost use Rattle.std.specs.List.Sorted.{IsStrictlySortedBy};
 ghost use Rattle.shape_pool.specs.declared.node.NodeId.{NodeId};
-ghost use Rattle.step_history.specs.Gathering.{Adds};
+ghost use Rattle.lists.specs.Gathering.{Adds};
 ghost use Rattle.step_history.specs.Numbered.{pair_cmp};
 ghost use Rattle.history_merge.specs.Joined.{AreBefore, IsFollowed, IsHere, IsJoined, IsOnto};
 

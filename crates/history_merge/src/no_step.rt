@@ -1,7 +1,7 @@
 //! The history over no step.
 ghost use Rattle.std.specs.Prelude.{◌<◌, All, IfOk, OnOk, length};
 ghost use Rattle.std.specs.List.Sorted.{IsStrictlySortedBy};
-ghost use Rattle.step_history.specs.Gathering.{Adds, Gathers};
+ghost use Rattle.lists.specs.Gathering.{Adds, Gathers};
 ghost use Rattle.step_history.specs.Numbered.{pair_cmp, Ascends, IsHeld};
 ghost use Rattle.history_merge.specs.Merged.{IsStartAt, Stays, TellsStart};
 

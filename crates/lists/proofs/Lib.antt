@@ -8,3 +8,5 @@ pub mod Sameness
 pub mod Once
 pub mod Results
 pub mod Iterators
+pub mod Gathering
+pub mod Entries

@@ -1,3 +1,4 @@
 pub mod Distinct
 pub mod Sameness
 pub mod Results
+pub mod Gathering

@@ -24,7 +24,8 @@ use Rattle.requests.specs.declared.request.Act.{Act}
 use Rattle.requests.specs.declared.request.Act.TheVariants.{Remove, Replace}
 use Rattle.requests.specs.Numbered.{Table, is_plain, is_for, from_last_plain, live_at, AreHeldIn, IsHeldIn, ActIsHeldIn}
 use Rattle.requests.specs.Readings.{IsReading, place_by, act_by, request_by, requests_by, step_by, targets_at, ends_at}
-use Rattle.requests.proofs.Lists.{by_test, All-rest}
+use Rattle.lists.proofs.Cases.{by_test}
+use Rattle.lists.proofs.Entries.{All-rest}
 use Rattle.requests.proofs.LiveLaws.{nat_eq-self}
 use Rattle.requests.proofs.HeldLaws.{held-live}
 

@@ -9,7 +9,7 @@ use Rattle.shape_pool.specs.Laws.{ids_used}
 use Rattle.requests.specs.declared.request.Request.{Request}
 use Rattle.requests.specs.Numbered.{Table, is_for, is_plain, starts_plain, from_last_plain, live_at}
 use Rattle.requests.specs.Readings.{ends_at, targets_at}
-use Rattle.requests.proofs.Lists.{by_test}
+use Rattle.lists.proofs.Cases.{by_test}
 
 or-false : (b : Bool) → (b || false) ≡ b
 or-false true = refl

@@ -15,7 +15,7 @@ use Rattle.requests.specs.declared.request.Act.{Act}
 use Rattle.requests.specs.declared.request.Act.TheVariants.{Remove, Replace}
 use Rattle.requests.specs.Numbered.{Table, is_plain, is_for, from_last_plain, live_at, AreHeldIn, IsHeldIn, ActIsHeldIn}
 use Rattle.requests.specs.Readings.{targets_at, ends_at}
-use Rattle.requests.proofs.Lists.{All-rest, All-from}
+use Rattle.lists.proofs.Entries.{All-rest, All-from}
 
 module _ (rows : List Row) where
   held-filter : (i : ℕ) (rs : List Request) → AreHeldIn rows rs → AreHeldIn rows (filter (is_for i) rs)

@@ -1,6 +1,4 @@
-pub mod Lists
 pub mod LiveLaws
-pub mod UseLaws
 pub mod FitLaws
 pub mod TreeFitLaws
 pub mod HeldLaws

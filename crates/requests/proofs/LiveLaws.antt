@@ -14,7 +14,8 @@ use Rattle.indexmap.specs.IndexSet.{insert_key}
 use Rattle.requests.specs.declared.request.Request.{Request}
 use Rattle.requests.specs.Numbered.{is_plain, is_for, from_last_plain, with_live, live_at}
 use Rattle.requests.specs.Indexed.{items_of, list_at, place_of, listed_at, IsSpared}
-use Rattle.requests.proofs.Lists.{by_test, slice_get-set, slice_get-set-other}
+use Rattle.lists.proofs.Cases.{by_test}
+use Rattle.lists.proofs.Places.{at_place, slice_get-set, slice_get-set-other}
 
 pub nat_eq-self : (n : ℕ) → nat_eq n n ≡ true
 nat_eq-self n = eq-eqb n n refl
@@ -184,7 +185,7 @@ noted xs live v x spared room =
             λ k h. other k (λ e. let a = m.within in omega (arith, a, e, h)) ∙
             spared.empty k (let a = m.longer in omega (arith, a, h));
       };
-      own = ap (list_at (set live p x)) m.own ∙ ap items_of (slice_get-set live p x within);
+      own = ap (list_at (set live p x)) m.own ∙ ap items_of (let r = at_place live p within in slice_get-set live p x r.0 r.1);
       others = λ i n. other (place_of ys i) (λ e. m.apart i n (sym e)) ∙ elim (m.others i n) [
         | inl e ↦ ap (list_at live) e
         | inr h ↦ spared.empty (place_of ys i) h.0 ∙ sym (spared.empty (place_of xs i) h.1)

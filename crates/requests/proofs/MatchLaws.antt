@@ -24,7 +24,8 @@ use Rattle.requests.specs.declared.request.Request.{Request}
 use Rattle.requests.specs.Numbered.{Table, is_plain, is_for, allows_place, allows_at, last_allowed}
 use Rattle.requests.specs.Numbered.{match_at, from_last_plain, live_at, AreHeldIn, IsHeldIn}
 use Rattle.requests.specs.Readings.{IsReading, IsPlaceBelow, place_by, request_by, requests_by}
-use Rattle.requests.proofs.Lists.{by_test, All-rest}
+use Rattle.lists.proofs.Cases.{by_test}
+use Rattle.lists.proofs.Entries.{All-rest}
 use Rattle.requests.proofs.LiveLaws.{nat_eq-self}
 use Rattle.requests.proofs.EdgeLaws.{TreesAreTold, for-is, same_test}
 

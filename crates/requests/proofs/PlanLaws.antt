@@ -18,7 +18,7 @@ use Rattle.graph_walks.specs.Graph.{ends_of}
 use Rattle.graph_walks.specs.Search.{IsOrderFrom}
 use Rattle.graph_walks.specs.Walks.{IsFinishOrder}
 use Rattle.requests.specs.Reached.{met_at}
-use Rattle.requests.proofs.Lists.{by_test}
+use Rattle.lists.proofs.Cases.{by_test}
 use Rattle.requests.proofs.ReachedLaws.{places-told}
 
 finish-distinct : (edges : ℕ → List ℕ) (l : List ℕ) → IsFinishOrder edges l → IsDistinct l

@@ -19,7 +19,8 @@ use Rattle.shape_pool.specs.Rows.{Row}
 use Rattle.requests.specs.Numbered.{Table}
 use Rattle.requests.specs.Readings.{ends_at}
 use Rattle.requests.specs.Reached.{met_at, AreMet, HasOneMore, IsGoneThrough}
-use Rattle.requests.proofs.Lists.{by_test, All-rest}
+use Rattle.lists.proofs.Cases.{by_test}
+use Rattle.lists.proofs.Entries.{All-rest}
 use Rattle.requests.proofs.LiveLaws.{nat_eq-self}
 
 -- ---- numbers that were met keep their places

@@ -13,8 +13,9 @@ use Rattle.shape_pool.specs.Laws.{ids_used, IsSound}
 use Rattle.requests.specs.declared.request.Act.{Act}
 use Rattle.requests.specs.declared.request.Act.TheVariants.{Remove, Replace}
 use Rattle.requests.specs.Numbered.{ActFits, ActIsHeldIn}
-use Rattle.requests.specs.Readings.{HaveKinds, TargetFits}
-use Rattle.requests.proofs.Lists.{All-from, All-none, All-rest}
+use Rattle.shape_pool.specs.Rows.{HaveKinds}
+use Rattle.requests.specs.Readings.{TargetFits}
+use Rattle.lists.proofs.Entries.{All-from, All-none, All-rest}
 use Rattle.requests.proofs.EdgeLaws.{uses-are, origin-is, children-are}
 
 some : {X : Type 0} (xs : List X) → xs ≢ [] → 0 < length xs

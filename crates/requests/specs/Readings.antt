@@ -14,16 +14,12 @@ use Rattle.expansion_laws.specs.Requests.{Act as TreeAct, Request as TreeRequest
 use Rattle.expansion_laws.specs.Requests.{remove, replace, live_requests, match_of}
 use Rattle.expansion_laws.specs.Steps.{Step}
 use Rattle.expansion_laws.specs.Graph.{FitsBy, edges}
-use Rattle.shape_pool.specs.Rows.{Row, kind_at, origin_at, use_by, tree_at, HasPlaces}
+use Rattle.shape_pool.specs.Rows.{Row, kind_at, origin_at, use_by, tree_at, HasPlaces, HaveKinds}
 use Rattle.shape_pool.specs.Laws.{TellsBelow, ids_used}
 use Rattle.requests.specs.declared.request.Request.{Request}
 use Rattle.requests.specs.declared.request.Act.{Act}
 use Rattle.requests.specs.declared.request.Act.TheVariants.{Remove, Replace}
 use Rattle.requests.specs.Numbered.{Table, is_plain, live_at, match_at, ActFits, ActIsHeldIn, AreHeldIn}
-
--- the nodes of an origin have its kind
-abbrev pub HaveKinds : List Row → (ℕ → Kind) → Type 0
-HaveKinds rows kind = (i : ℕ) → i < length rows → kind (origin_at rows i) ≡ kind_at rows i
 
 -- a place, if there is one, is a word with a number below n
 abbrev pub IsPlaceBelow : ℕ → Option WordId → Type 0

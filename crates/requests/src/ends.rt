@@ -8,7 +8,6 @@ ghost use Rattle.requests.specs.Readings.{ends_at, targets_at};
 
 use crate::request::{Act, Request};
 use crate::table::RequestTable;
-use crate::uses::{use_count, used_at};
 use orientation::Kind;
 use shape_pool::{NodeId, Pool};
 use std::alloc::AllocError;
@@ -35,8 +34,8 @@ fn push_uses(pool: &Pool, id: NodeId, ends: &mut Vec<u32>) -> Result<(), AllocEr
     requires { id.0 < length pool.now }
     ensures { OnOk result (ends.new.items ≡ ends.old.items ++ ids_used pool.now id.0) }
 {
-    for at in 0..use_count(pool, id) {
-        ends.push(used_at(pool, id, at).0)?;
+    for at in 0..pool.use_count(id) {
+        ends.push(pool.used_at(id, at).0)?;
     }
     Ok(())
 }

@@ -6,7 +6,6 @@ ghost use Rattle.shape_pool.specs.Laws.{ids_used};
 ghost use Rattle.requests.specs.Numbered.{FitsAt};
 ghost use Rattle.requests.specs.Readings.{FitsByTrees};
 
-use crate::uses::{use_count, used_at};
 use orientation::Kind;
 use shape_pool::{NodeId, Pool};
 
@@ -15,8 +14,8 @@ fn are_of(pool: &Pool, id: NodeId, kind: Kind) -> bool
     requires { id.0 < length pool.now }
     ensures { IsTrue result ↔ All (λ j. kind_at pool.now j ≡ kind) (ids_used pool.now id.0) }
 {
-    for at in 0..use_count(pool, id) {
-        if pool.kind(used_at(pool, id, at)) != kind {
+    for at in 0..pool.use_count(id) {
+        if pool.kind(pool.used_at(id, at)) != kind {
             return false;
         }
     }
@@ -46,7 +45,7 @@ pub(crate) fn fits(pool: &Pool, source: NodeId, target: NodeId) -> bool
     if !higher {
         return false;
     }
-    if use_count(pool, target) == 0 {
+    if pool.use_count(target) == 0 {
         return false;
     }
     are_of(pool, target, kind)

@@ -12,7 +12,6 @@ mod reached;
 mod reaching;
 mod request;
 mod table;
-mod uses;
 mod walk;
 
 pub use fault::{AddFault, CheckFault};

@@ -10,3 +10,4 @@ pub mod StockLaws
 pub mod IndexLaws
 pub mod CallLaws
 pub mod HandingLaws
+pub mod UseLaws

@@ -1,6 +1,6 @@
 -- What a pool holds: each node by its kind, its origin, and its uses by the numbers of their nodes. A node's number is
 -- its place.
-use Rattle.std.specs.Prelude.{ℕ, suc, ◌<◌, max, List, [], ◌∷◌, ◌++◌, map, fold, length, All, slice_get, unwrap_or}
+use Rattle.std.specs.Prelude.{◌≡◌, ℕ, suc, ◌<◌, max, List, [], ◌∷◌, ◌++◌, map, fold, length, All, slice_get, unwrap_or}
 use Rattle.std.specs.Option.{option_map_or}
 use Rattle.orientation.specs.declared.kind.Kind.{Kind}
 use Rattle.orientation.specs.declared.kind.Kind.TheVariants.{Co}
@@ -28,6 +28,10 @@ module _ (rows : List Row) (i : ℕ) where
 
   abbrev pub uses_at : List UseOf
   uses_at = option_map_or (λ (r : Row). r.uses) (slice_get rows i) []
+
+-- the nodes of an origin have its kind
+abbrev pub HaveKinds : List Row → (ℕ → Kind) → Type 0
+HaveKinds rows kind = (i : ℕ) → i < length rows → kind (origin_at rows i) ≡ kind_at rows i
 
 -- trees, under a reading of the numbers of words
 module _ (word : ℕ → List Pair) where

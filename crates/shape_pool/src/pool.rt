@@ -1,6 +1,6 @@
 //! The pool: nodes by number, found by origin and uses.
 ghost use Rattle.std.specs.Prelude.{◌≡◌, ◌<◌, ◌≤◌, ◌+◌, ℕ, List, [], ◌∷◌, ◌++◌, All, map, take};
-ghost use Rattle.std.specs.Prelude.{length, IfErr, IfNone, IfOk, IfSome, OnErr, OnOk};
+ghost use Rattle.std.specs.Prelude.{length, slice_get, IfErr, IfNone, IfOk, IfSome, OnErr, OnOk, Some};
 ghost use Rattle.location_words.specs.declared.pair.Pair.{Pair};
 ghost use Rattle.orientation.specs.declared.kind.Kind.TheVariants.{Co};
 ghost use Rattle.expansion_laws.specs.Measures.{depth as depth_of};
@@ -11,7 +11,7 @@ ghost use Rattle.shape_pool.specs.Rows.{origin_at, tree_at, uses_at, AllBelow, A
 ghost use Rattle.shape_pool.specs.Calls.{IsHandedIn, IsHandedInLike, IsHeldAs, IsLoaded, IsLoadedAs, IsLoadedToo};
 ghost use Rattle.shape_pool.specs.Calls.{IsNode, IsNodeLike, IsRefused, IsTreeOver, StandsForNumber};
 ghost use Rattle.shape_pool.specs.Calls.{Keeps, KeepsLoaded, KeepsLoadedBelow, KeepsPlaces};
-ghost use Rattle.shape_pool.specs.Laws.{IsSound};
+ghost use Rattle.shape_pool.specs.Laws.{ids_used, IsSound};
 
 use crate::fault::PoolFault;
 use crate::handing::{hold_changed, hold_loaded, hold_made};
@@ -97,6 +97,26 @@ impl Pool {
         ensures tree { (word : ℕ → List Pair) → depth_of (tree_at word self.now id.0) ≡ result }
     {
         self.stock.held().depth(id.0 as usize)
+    }
+
+    /// How many uses a node has.
+    pub fn use_count(&self, id: NodeId) -> usize
+        requires { id.0 < length self.now }
+        ensures { result ≡ length (ids_used self.now id.0) }
+    {
+        self.node(id).uses.len()
+    }
+
+    /// The node that a use of a node names, uses being counted from 0.
+    pub fn used_at(&self, id: NodeId, at: usize) -> NodeId
+        requires id { id.0 < length self.now }
+        requires at { at < length (ids_used self.now id.0) }
+        ensures id { slice_get (ids_used self.now id.0) at ≡ Some result.0 }
+        ensures earlier { result.0 < id.0 }
+        ensures held { result.0 < length self.now }
+    {
+        self.laws();
+        self.node(id).uses[at].node.id
     }
 
     /// The number that an origin was loaded as, and none where it isn't loaded.

@@ -5,7 +5,6 @@ pub mod StandingLemmas
 pub mod ExampleLemmas
 pub mod RowExampleLemmas
 pub mod WalkLaws
-pub mod UseLaws
 pub mod MetLaws
 pub mod GatherLaws
 pub mod SortLaws

@@ -18,7 +18,8 @@ use Rattle.shape_pool.specs.Rows.{Row, kind_at}
 use Rattle.shape_pool.specs.Laws.{ids_used, IsSound}
 use Rattle.step_history.specs.History.{IsSupported}
 use Rattle.step_history.specs.Numbered.{ArePairsHeld}
-use Rattle.step_history.specs.Gathering.{Adds, CameNew, IsMadeOf, IsPair, IsPicked, IsWalk, Meets}
+use Rattle.lists.specs.Gathering.{Adds}
+use Rattle.step_history.specs.Gathering.{CameNew, IsMadeOf, IsPair, IsPicked, IsWalk, Meets}
 use Rattle.step_history.proofs.GatherLaws.{named_by}
 use Rattle.step_history.proofs.WalkLaws.{closed-reaches}
 

@@ -8,15 +8,16 @@ use Rattle.shape_pool.specs.Rows.{Row, kind_at}
 use Rattle.shape_pool.specs.Laws.{IsSound}
 use Rattle.step_history.specs.declared.history.StepHistory.{StepHistory}
 use Rattle.step_history.specs.History.{IsSupported}
-use Rattle.step_history.specs.Numbered.{ArePairsHeld, IsHeld, OccursAt, IsImageAt, IsGeneratedAt, IsGoneAt, IsStepAt}
-use Rattle.step_history.specs.Gathering.{Gathers, IsFirst, IsLost, IsReadOff}
+use Rattle.step_history.specs.Numbered.{AreBelow, AreGone, ArePairsHeld, IsHeld, OccursAt, IsImageAt, IsGeneratedAt, IsGoneAt, IsStepAt}
+use Rattle.lists.specs.Gathering.{Gathers}
+use Rattle.step_history.specs.Gathering.{IsFirst, IsLost, IsReadOff}
 use Rattle.step_history.proofs.GatherLaws.{named_by}
 
 -- what occurs below a held number is held
 pub occurs-held : (rows : List Row) → IsSound rows → (root : ℕ) → root < length rows → (i : ℕ) → OccursAt rows root i → i < length rows
 occurs-held rows sound root held i r = let le = sound.ids_of_subtrees.held root i held r in omega (arith, le, held)
 
-pub nodes-held : (rows : List Row) → IsSound rows → (root : ℕ) → root < length rows → (met : List ℕ) → ((i : ℕ) → Contains met i ↔ OccursAt rows root i) →
+pub nodes-held : (rows : List Row) → IsSound rows → (root : ℕ) → root < length rows → (met : List ℕ) → AreBelow rows root met →
     All (λ i. i < length rows) met
 nodes-held rows sound root held met is = All-from_members (λ i. i < length rows) met (λ i m. occurs-held rows sound root held i ((is i).0 m))
 
@@ -28,8 +29,8 @@ second-held rows pairs p held m = (All-contains (λ (q : NodeId × NodeId). (q.0
 
 -- what is lost is gone
 pub lost-gone : (rows : List Row) (before after : ℕ) (input output firsts : List ℕ) (kept : List (NodeId × NodeId)) (removed : List NodeId) →
-    ((i : ℕ) → Contains input i ↔ OccursAt rows before i) → ((i : ℕ) → Contains output i ↔ OccursAt rows after i) →
-    Gathers IsFirst kept firsts → Gathers (IsLost rows output firsts) input removed → (t : NodeId) → Contains removed t ↔ IsGoneAt rows before after kept t
+    AreBelow rows before input → AreBelow rows after output →
+    Gathers IsFirst kept firsts → Gathers (IsLost rows output firsts) input removed → AreGone rows before after kept removed
 lost-gone rows before after input output firsts kept removed ins outs firsts_are lost t = (there, back)
   where
     there : Contains removed t → IsGoneAt rows before after kept t
@@ -55,9 +56,8 @@ lost-gone rows before after input output firsts kept removed ins outs firsts_are
       ),
     )
 
-module _ (rows : List Row) (before after : ℕ) (imaged replacing : List (NodeId × NodeId)) (input output : List ℕ) (h : StepHistory)
-    (ins : (i : ℕ) → Contains input i ↔ OccursAt rows before i) (outs : (i : ℕ) → Contains output i ↔ OccursAt rows after i)
-    (read : IsReadOff rows input output imaged replacing h) where
+module _ (rows : List Row) (before after : ℕ) (imaged replacing : List (NodeId × NodeId)) (input : List ℕ) (h : StepHistory)
+    (ins : AreBelow rows before input) (read : IsReadOff rows input imaged replacing h) (gone-is : AreGone rows before after h.images h.removed) where
   image-at : (p y : NodeId × NodeId) → p ≡ y → Contains imaged p → IsSupported (kind_at rows p.0.0) → Contains input p.0.0 → IsImageAt rows before after imaged replacing y.0 y.1
   image-at p y e m a b = subst (λ q. IsImageAt rows before after imaged replacing q.0 q.1) e (a, (ins p.0.0).0 b, m)
 
@@ -106,9 +106,6 @@ module _ (rows : List Row) (before after : ℕ) (imaged replacing : List (NodeId
           },
         ),
       )
-
-  gone-is : (t : NodeId) → Contains h.removed t ↔ IsGoneAt rows before after h.images t
-  gone-is = lost-gone rows before after input output read.firsts h.images h.removed ins outs read.firsts_are read.lost
 
   pub step-at : IsStepAt rows before after imaged replacing h
   step-at = record {

@@ -1,5 +1,6 @@
--- What is gathered from lists, and which numbers are met on a walk below nodes.
-use Rattle.std.specs.Prelude.{◌≡◌, ◌⊎◌, ◌↔◌, ◌<◌, ℕ, List, [], ◌∷◌, ◌++◌, Contains, IsTrue}
+-- Which numbers are met on a walk below nodes, and what of them is gathered.
+use Rattle.std.specs.Prelude.{◌≡◌, ◌⊎◌, ◌<◌, ℕ, List, [], ◌∷◌, ◌++◌, Contains, IsTrue}
+use Rattle.lists.specs.Gathering.{Gathers}
 use Rattle.orientation.specs.Kinds.{rank_of}
 use Rattle.orientation.specs.Rules.{is_above}
 use Rattle.graph_walks.specs.Walks.{Reaches}
@@ -9,14 +10,6 @@ use Rattle.shape_pool.specs.Laws.{ids_used}
 use Rattle.step_history.specs.declared.history.StepHistory.{StepHistory}
 use Rattle.step_history.specs.History.{IsSupported}
 use Rattle.step_history.specs.Numbered.{StandsBelowAt}
-
--- a list has become one with the same things, and those of which a fact holds
-abbrev pub Adds : {Y : Type 0} → (Y → Type 0) → List Y → List Y → Type 0
-Adds {Y} P old new = (y : Y) → Contains new y ↔ (Contains old y ⊎ P y)
-
--- a list has just what things of another are related to
-abbrev pub Gathers : {X Y : Type 0} → (X → Y → Type 0) → List X → List Y → Type 0
-Gathers {X} {Y} R xs ys = (y : Y) → Contains ys y ↔ ((x : X) × Contains xs x × R x y)
 
 -- a number is among those met, or has come last
 abbrev pub IsNoted : List ℕ → ℕ → List ℕ → Type 0
@@ -78,12 +71,9 @@ IsFirst p i = p.0.0 ≡ i
 abbrev pub IsFresh : List ℕ → NodeId × NodeId → ℕ → Type 0
 IsFresh input p i = (p.1.0 ≡ i) × (Contains input p.0.0 → ⊥)
 
--- what a history is read off from, given the numbers of the input and of the output
-pub record IsReadOff (rows : List Row) (input output : List ℕ) (imaged replacing : List (NodeId × NodeId)) (h : StepHistory) : Type 0 where
-  pub firsts : List ℕ
+-- what the pairs of a history are read off from, given the numbers of the input
+pub record IsReadOff (rows : List Row) (input : List ℕ) (imaged replacing : List (NodeId × NodeId)) (h : StepHistory) : Type 0 where
   pub fresh : List ℕ
   pub keeps : Gathers (IsKept rows input) imaged h.images
-  pub firsts_are : Gathers IsFirst h.images firsts
-  pub lost : Gathers (IsLost rows output firsts) input h.removed
   pub news : Gathers (IsFresh input) imaged fresh
   pub mades : Gathers (IsMadeOf rows input fresh) replacing h.generated

@@ -53,6 +53,13 @@ abbrev pub IsGoneAt : List Row → ℕ → ℕ → List (NodeId × NodeId) → N
 IsGoneAt rows before after pairs t =
     IsSupported (kind_at rows t.0) × OccursAt rows before t.0 × ((s : NodeId) → Contains pairs (t, s) → ⊥) × (OccursAt rows after t.0 → ⊥)
 
+-- a list has just the numbers that occur in the tree of a root, and just those that are gone
+abbrev pub AreBelow : List Row → ℕ → List ℕ → Type 0
+AreBelow rows root met = (i : ℕ) → Contains met i ↔ OccursAt rows root i
+
+abbrev pub AreGone : List Row → ℕ → ℕ → List (NodeId × NodeId) → List NodeId → Type 0
+AreGone rows before after pairs ids = (t : NodeId) → Contains ids t ↔ IsGoneAt rows before after pairs t
+
 module _ (rows : List Row) (before after : ℕ) (imaged replaced : List (NodeId × NodeId)) where
   -- the images of the input's numbers
   abbrev pub IsImageAt : NodeId → NodeId → Type 0
@@ -69,7 +76,7 @@ module _ (rows : List Row) (before after : ℕ) (imaged replaced : List (NodeId 
   pub record IsStepAt (h : StepHistory) : Type 0 where
     pub images : (t s : NodeId) → Contains h.images (t, s) ↔ IsImageAt t s
     pub generated : (t s : NodeId) → Contains h.generated (t, s) ↔ IsGeneratedAt t s
-    pub removed : (t : NodeId) → Contains h.removed t ↔ IsGoneAt rows before after h.images t
+    pub removed : AreGone rows before after h.images h.removed
 
 -- ---- among trees
 -- A reading gives trees their kinds, and the numbers below n words that differ. All words of uses are numbered below n.

@@ -1,11 +1,10 @@
 //! Walks over the nodes below a root, each node once.
-ghost use Rattle.std.specs.Prelude.{◌<◌, ◌↔◌, ◌∷◌, ℕ, [], length, Contains, IfOk, OnOk};
+ghost use Rattle.std.specs.Prelude.{◌<◌, ◌∷◌, [], length, All, IfOk, OnOk};
 ghost use Rattle.shape_pool.specs.Laws.{ids_used};
 ghost use Rattle.step_history.specs.Gathering.{IsClosed, Meets};
-ghost use Rattle.step_history.specs.Numbered.{OccursAt};
+ghost use Rattle.step_history.specs.Numbered.{AreBelow};
 
 use crate::met::Met;
-use crate::uses::{use_count, used_at};
 use shape_pool::{NodeId, Pool};
 use std::alloc::{AllocError, Global};
 
@@ -32,8 +31,8 @@ pub(crate) fn meet_below(pool: &Pool, id: NodeId, met: &mut Met) -> Result<(), A
     requires closed { IsClosed pool.now met.old }
     ensures { OnOk result (Meets pool.now (ids_used pool.now id.0) met.old met.new) }
 {
-    for at in 0..use_count(pool, id) {
-        meet(pool, used_at(pool, id, at), met)?;
+    for at in 0..pool.use_count(id) {
+        meet(pool, pool.used_at(id, at), met)?;
     }
     Ok(())
 }
@@ -41,8 +40,10 @@ pub(crate) fn meet_below(pool: &Pool, id: NodeId, met: &mut Met) -> Result<(), A
 /// The nodes that occur in the tree of a root.
 pub fn nodes_of(alloc: Global, pool: &Pool, root: NodeId) -> Result<Met, AllocError>
     requires { root.0 < length pool.now }
-    ensures { IfOk result (λ met. (i : ℕ) → Contains met i ↔ OccursAt pool.now root.0 i) }
+    ensures below { IfOk result (AreBelow pool.now root.0) }
+    ensures held { IfOk result (All (λ i. i < length pool.now)) }
 {
+    pool.laws();
     let mut met = Met::new(alloc);
     meet(pool, root, &mut met)?;
     Ok(met)

@@ -1,10 +1,11 @@
 //! The images of a step's input, and what is left without one.
-ghost use Rattle.std.specs.Prelude.{◌<◌, ◌↔◌, All, IfOk, IsTrue, OnOk, length, Contains};
+ghost use Rattle.std.specs.Prelude.{◌<◌, ◌↔◌, ℕ, All, IfOk, IsTrue, OnOk, length, Contains};
 ghost use Rattle.std.specs.List.Sorted.{IsStrictlySortedBy};
 ghost use Rattle.shape_pool.specs.Rows.{kind_at};
 ghost use Rattle.step_history.specs.History.{IsSupported};
-ghost use Rattle.step_history.specs.Gathering.{Adds, Gathers, IsFirst, IsFresh, IsKept, IsLost};
-ghost use Rattle.step_history.specs.Numbered.{id_cmp, pair_cmp, ArePairsHeld};
+ghost use Rattle.lists.specs.Gathering.{Adds, Gathers};
+ghost use Rattle.step_history.specs.Gathering.{IsFirst, IsFresh, IsKept, IsLost};
+ghost use Rattle.step_history.specs.Numbered.{id_cmp, pair_cmp, AreBelow, AreGone, ArePairsHeld};
 
 use crate::ascending::{ascending_ids, ascending_pairs};
 use crate::met::Met;
@@ -66,7 +67,7 @@ pub(crate) fn images_of(
 }
 
 /// The first shapes of pairs.
-pub fn firsts_of(alloc: Global, pairs: &[(NodeId, NodeId)]) -> Result<Met, AllocError>
+fn firsts_of(alloc: Global, pairs: &[(NodeId, NodeId)]) -> Result<Met, AllocError>
     ensures { IfOk result (Gathers IsFirst pairs.now) }
 {
     let mut firsts = Met::new(alloc);
@@ -103,7 +104,7 @@ fn lose(
 }
 
 /// The shapes of the input that are first in no pair and aren't of the output, given the first shapes of the pairs.
-pub fn lost_of(
+fn lost_of(
     alloc: Global,
     pool: &Pool,
     input: &Met,
@@ -119,6 +120,24 @@ pub fn lost_of(
         lose(pool, output, firsts, *id, &mut lost)?;
     }
     Ok(ascending_ids(lost))
+}
+
+/// The shapes of an input of which histories speak that are first in no pair and aren't of an output.
+pub fn removed_of(
+    alloc: Global,
+    pool: &Pool,
+    input: &Met,
+    output: &Met,
+    pairs: &[(NodeId, NodeId)],
+) -> Result<Ids, AllocError>
+    requires { All (λ i. i < length pool.now) input.now }
+    ensures gone { (before after : ℕ) → AreBelow pool.now before input.now → AreBelow pool.now after output.now →
+        IfOk result (AreGone pool.now before after pairs.now) }
+    ensures order { IfOk result (IsStrictlySortedBy id_cmp) }
+{
+    let firsts = firsts_of(alloc, pairs)?;
+    let removed = lost_of(alloc, pool, input, output, &firsts)?;
+    Ok(removed)
 }
 
 /// Adds the image of a shape that isn't of the input.

@@ -4,7 +4,8 @@ ghost use Rattle.std.specs.List.Sorted.{IsStrictlySortedBy};
 ghost use Rattle.orientation.specs.Rules.{is_above};
 ghost use Rattle.shape_pool.specs.Rows.{kind_at};
 ghost use Rattle.step_history.specs.History.{IsSupported};
-ghost use Rattle.step_history.specs.Gathering.{Adds, Gathers, IsMadeOf, IsNewOf, IsPair, IsPicked, IsWalk};
+ghost use Rattle.lists.specs.Gathering.{Adds, Gathers};
+ghost use Rattle.step_history.specs.Gathering.{IsMadeOf, IsNewOf, IsPair, IsPicked, IsWalk};
 ghost use Rattle.step_history.specs.Numbered.{pair_cmp, ArePairsHeld};
 
 use crate::ascending::{ascending_copy, ascending_pairs};

@@ -1,11 +1,11 @@
 //! The history of a step.
-ghost use Rattle.std.specs.Prelude.{◌<◌, All, IfOk, length};
+ghost use Rattle.std.specs.Prelude.{◌<◌, ℕ, All, IfOk, length};
 ghost use Rattle.step_history.specs.Gathering.{IsReadOff};
-ghost use Rattle.step_history.specs.Numbered.{ArePairsHeld, Ascends, IsHeld, IsStepAt, TellsStep};
+ghost use Rattle.step_history.specs.Numbered.{AreBelow, AreGone, ArePairsHeld, Ascends, IsHeld, IsStepAt, TellsStep};
 
 use crate::below::nodes_of;
 use crate::history::StepHistory;
-use crate::kept::{firsts_of, fresh_of, images_of, lost_of};
+use crate::kept::{fresh_of, images_of, removed_of};
 use crate::made::made_of;
 use crate::met::Met;
 use shape_pool::{IdPairs, NodeId, Pool};
@@ -23,13 +23,14 @@ fn read_off(
     requires input { All (λ i. i < length pool.now) input.now }
     requires images { ArePairsHeld pool.now images.now }
     requires replaced { ArePairsHeld pool.now replaced.now }
-    ensures read { IfOk result (IsReadOff pool.now input.now output.now images.now replaced.now) }
+    ensures read { IfOk result (IsReadOff pool.now input.now images.now replaced.now) }
+    ensures gone { (before after : ℕ) → AreBelow pool.now before input.now → AreBelow pool.now after output.now →
+        IfOk result (λ h. AreGone pool.now before after h.images h.removed) }
     ensures order { IfOk result Ascends }
 {
     let kept = images_of(alloc, pool, input, images)?;
     let pairs = kept.as_slice();
-    let firsts = firsts_of(alloc, pairs)?;
-    let removed = lost_of(alloc, pool, input, output, &firsts)?;
+    let removed = removed_of(alloc, pool, input, output, pairs)?;
     let fresh = fresh_of(alloc, input, images)?;
     let generated = made_of(alloc, pool, input, &fresh, replaced)?;
     Ok(StepHistory {

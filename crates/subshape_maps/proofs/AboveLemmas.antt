@@ -27,7 +27,7 @@ use Rattle.subshape_maps.specs.Shapes.{shape_eq, first_places, first_places_afte
 use Rattle.subshape_maps.specs.Numbered.{at_eq, shape_by, occurrences_by, Meets}
 use Rattle.subshape_maps.proofs.FirstPlaces.{append-none, more-distinct}
 use Rattle.subshape_maps.proofs.MetLemmas.{ShapesAreTold}
-use Rattle.subshape_maps.proofs.NumberLemmas.{slice_get-mapped}
+use Rattle.lists.proofs.Entries.{slice_get-mapped}
 use Rattle.subshape_maps.specs.declared.fault.MapFault.{MapFault}
 use Rattle.subshape_maps.specs.declared.fault.MapFault.TheVariants.{Word, Keys, Pairs, NoMemory}
 use Rattle.location_words.specs.Tables.{IsTable}
@@ -42,7 +42,8 @@ use Rattle.orientation.specs.declared.kind.Kind.{Kind}
 use Rattle.shape_pool.specs.declared.node.UseOf.{UseOf}
 use Rattle.lists.proofs.Members.{Contains-map_cases}
 use Rattle.lists.proofs.Tests.{Contains-filter_cases}
-use Rattle.subshape_maps.specs.Numbered.{root_at, HaveKinds, IsMap}
+use Rattle.shape_pool.specs.Rows.{HaveKinds}
+use Rattle.subshape_maps.specs.Numbered.{root_at, IsMap}
 use Rattle.subshape_maps.specs.Refusals.{AreMet}
 use Rattle.subshape_maps.proofs.NumberLemmas.{shapes-stay, held-stay}
 use Rattle.subshape_maps.specs.Above.{above_of, pairs_by, IsAboveMap, IsDueAbove, a_row, an_above, above_by, with_high, noted, all_noted, is_among, is_above_at, rows_of, stands_above, counted, pairs_of, Above, HaveLows, IsPastPairs}

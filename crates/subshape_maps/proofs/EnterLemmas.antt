@@ -27,7 +27,8 @@ use Rattle.subshape_maps.specs.Numbered.{at_eq, shape_by, shapes_by, occurrences
 use Rattle.subshape_maps.proofs.FirstPlaces.{with-cases, more-known, append-none}
 use Rattle.subshape_maps.proofs.Occurrences.{of_use, of_uses, below-list, use-less-deep}
 use Rattle.subshape_maps.proofs.MetLemmas.{ShapesAreTold, met-joined, one-met, known-met, due-later, due-word, due-many, closed-less, closed-with, closed-uses}
-use Rattle.subshape_maps.proofs.NumberLemmas.{All-place, slice_get-mapped, word-at, no-fault, word-stays, places-stay, tree-stays, shapes-stay, held-stay, any-same, noted-is, words-within}
+use Rattle.lists.proofs.Entries.{All-place, slice_get-mapped}
+use Rattle.subshape_maps.proofs.NumberLemmas.{word-at, no-fault, word-stays, places-stay, tree-stays, shapes-stay, held-stay, any-same, noted-is, words-within}
 
 -- the uses of a shape's tree
 abbrev pub uses_by : List (List Pair) → List Row → ShapeAt → List Use

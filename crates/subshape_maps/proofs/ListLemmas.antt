@@ -16,7 +16,8 @@ use Rattle.shape_pool.specs.Laws.{word_in, IsSound}
 use Rattle.subshape_maps.specs.declared.shape.ShapeAt.{ShapeAt}
 use Rattle.subshape_maps.specs.Shapes.{Shape, shape_eq, occurrences_of, first_places}
 use Rattle.subshape_maps.specs.Maps.{is_asked, is_of}
-use Rattle.subshape_maps.specs.Numbered.{shape_by, shapes_by, occurrences_by, is_asked_at, root_at, AreHeld, Grows, HaveKinds, IsMap, Meets}
+use Rattle.shape_pool.specs.Rows.{HaveKinds}
+use Rattle.subshape_maps.specs.Numbered.{shape_by, shapes_by, occurrences_by, is_asked_at, root_at, AreHeld, Grows, IsMap, Meets}
 use Rattle.subshape_maps.proofs.FirstPlaces.{append-none, more-passing}
 use Rattle.subshape_maps.proofs.MetLemmas.{ShapesAreTold}
 use Rattle.subshape_maps.proofs.NumberLemmas.{shape-stays}

@@ -8,6 +8,7 @@ use Rattle.std.proofs.lemmas.List.{map-append}
 use Rattle.std.proofs.lemmas.Option.{slice_get_within}
 use Rattle.lists.proofs.Cases.{by_test}
 use Rattle.lists.proofs.Members.{Contains-here, Contains-there, Contains-map_cases}
+use Rattle.lists.proofs.Entries.{All-place}
 use Rattle.lists.proofs.Places.{at_place}
 use Rattle.location_words.specs.declared.pair.Pair.{Pair}
 use Rattle.location_words.specs.Faults.{fault_of}
@@ -54,17 +55,6 @@ shapes-told trees words a b = (
   (λ e. shape-same ((trees a.tree b.tree).0 (and-left (tree_eq a.tree b.tree) (pairs_eq a.word b.word) e)) ((words a.word b.word).0 (and-right (tree_eq a.tree b.tree) (pairs_eq a.word b.word) e))),
   (λ e. and-both (tree_eq a.tree b.tree) (pairs_eq a.word b.word) ((trees a.tree b.tree).1 (ap (λ (s : Shape). s.tree) e)) ((words a.word b.word).1 (ap (λ (s : Shape). s.word) e))),
 )
-
--- ---- places of a list
-pub slice_get-mapped : {X Y : Type 0} (f : X → Y) (xs : List X) (i : ℕ) (x : X) → slice_get xs i ≡ Some x → slice_get (map f xs) i ≡ Some (f x)
-slice_get-mapped f [] i x e = absurd cc
-slice_get-mapped f (y ∷ xs) zero x e = ap Some (ap f (ap (λ o. unwrap_or o y) e))
-slice_get-mapped f (y ∷ xs) (suc i) x e = slice_get-mapped f xs i x e
-
-pub All-place : {X : Type 0} (P : X → Type 0) (xs : List X) (i : ℕ) (x : X) → All P xs → slice_get xs i ≡ Some x → P x
-All-place P [] i x h e = absurd cc
-All-place P (y ∷ xs) zero x h e = subst P (ap (λ o. unwrap_or o y) e) (h zero y (omega arith))
-All-place P (y ∷ xs) (suc i) x h e = All-place P xs i x (λ k d lt. h (suc k) d (omega (arith, lt))) e
 
 -- ---- words of a table
 pub word-at : (table : List (List Pair)) (i : ℕ) (w : List Pair) → slice_get table i ≡ Some w → word_in table i ≡ w

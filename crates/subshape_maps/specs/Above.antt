@@ -16,7 +16,8 @@ use Rattle.subshape_maps.specs.declared.above.AboveOne.{AboveOne}
 use Rattle.subshape_maps.specs.Shapes.{Shape, shape_eq, occurrences_of}
 use Rattle.subshape_maps.specs.Maps.{map_of}
 use Rattle.subshape_maps.specs.Numbered.{at_eq, shape_by, shapes_by, occurrences_by, root_at}
-use Rattle.subshape_maps.specs.Numbered.{AreHeld, IsHeldAt, HaveKinds}
+use Rattle.shape_pool.specs.Rows.{HaveKinds}
+use Rattle.subshape_maps.specs.Numbered.{AreHeld, IsHeldAt}
 use Rattle.subshape_maps.specs.Refusals.{AreMet, IsDue}
 
 -- whether a high shape stands properly above an occurrence of a low one: that one is among its occurrences, and another

@@ -8,7 +8,7 @@ use Rattle.location_words.specs.Pairs.{mul}
 use Rattle.location_words.specs.Tables.{IsTable}
 use Rattle.expansion_laws.specs.Measures.{depth}
 use Rattle.shape_pool.specs.declared.node.UseOf.{UseOf}
-use Rattle.shape_pool.specs.Rows.{Row, kind_at, origin_at, tree_at, HasPlaces}
+use Rattle.shape_pool.specs.Rows.{Row, kind_at, origin_at, tree_at, HasPlaces, HaveKinds}
 use Rattle.shape_pool.specs.Laws.{word_in}
 use Rattle.subshape_maps.specs.declared.fault.MapFault.{MapFault}
 use Rattle.subshape_maps.specs.declared.shape.ShapeAt.{ShapeAt}
@@ -54,10 +54,6 @@ Grows old new = (i : ℕ) (w : List Pair) → slice_get old i ≡ Some w → sli
 -- whether a numbered shape is of the kind asked for
 abbrev pub is_asked_at : List Row → Option Kind → ShapeAt → Bool
 is_asked_at rows asked s = is_asked asked (kind_at rows s.id.0)
-
--- the nodes of an origin have its kind
-abbrev pub HaveKinds : List Row → (ℕ → Kind) → Type 0
-HaveKinds rows kind = (i : ℕ) → i < length rows → kind (origin_at rows i) ≡ kind_at rows i
 
 -- the numbered shapes are held, and stand for the map of a root, by the words of a table, whatever kinds the origins
 -- have that agree with the nodes'

@@ -3,22 +3,20 @@ use Rattle.std.proofs.Common.{subst, List}
 use Rattle.std.specs.Prelude.{Contains, ◌↔◌, ◌⊎◌}
 use Rattle.shape_pool.specs.declared.node.NodeId.{NodeId}
 use Rattle.step_history.specs.declared.history.StepHistory.{StepHistory}
-use Rattle.step_history.specs.Gathering.{Gathers, IsFirst}
-use Rattle.step_history.specs.Numbered.{IsHeld}
+use Rattle.step_history.specs.Numbered.{AreGone, IsHeld}
 use Rattle.history_merge.specs.Chain.{IsChainAt}
 use Rattle.history_merge.specs.Joined.{IsJoined}
-use Rattle.history_merge.proofs.ChainLaws.{chain-held, chain-tells, lost-gone, nodes-held}
+use Rattle.history_merge.proofs.ChainLaws.{chain-held, chain-tells}
 use Rattle.history_merge.proofs.in_row.chain.Goals as goal
 
-pub lost_of-requires : goal.lost_of-requires
-lost_of-requires c = nodes-held c.args.pool.now c.laws.ensures c.args.first.0 c.requires.first c.in_ok-input.input c.in_ok-input.ensures
+pub removed_of-requires : goal.removed_of-requires
+removed_of-requires c = c.in_ok-input.ensures.held
 
 pub returns : goal.returns
 returns c =
     let a : StepHistory = c.args.h12.now in
     let b : StepHistory = c.args.h23.now in
     let h : StepHistory = record { images = c.in_ok-images.images; generated = c.in_ok-generated.generated; removed = c.in_ok-removed.removed } in
-    let firsts = subst (λ (l : List (NodeId × NodeId)). Gathers IsFirst l c.in_ok-firsts.firsts) c.as_slice-pairs.ensures c.in_ok-firsts.ensures in
     let images = subst (λ (l : List (NodeId × NodeId)). (y : NodeId × NodeId) → Contains c.in_ok-images.images y ↔ IsJoined l b.images y) c.as_slice-a_images.ensures
     (subst (λ (l : List (NodeId × NodeId)). (y : NodeId × NodeId) → Contains c.in_ok-images.images y ↔ IsJoined c.as_slice-a_images.result.now l y) c.as_slice-b_images.ensures c.in_ok-images.ensures.pairs) in
     let generated = subst (λ (l : List (NodeId × NodeId)). (y : NodeId × NodeId) → Contains c.in_ok-generated.generated y ↔
@@ -33,8 +31,8 @@ returns c =
     let is : IsChainAt c.args.pool.now c.args.first.0 c.args.last.0 a b h = record {
       images = images;
       generated = generated;
-      removed = lost-gone c.args.pool.now c.args.first.0 c.args.last.0 c.in_ok-input.input c.in_ok-output.output c.in_ok-firsts.firsts h.images h.removed
-          c.in_ok-input.ensures c.in_ok-output.ensures firsts c.in_ok-removed.ensures.lost;
+      removed = subst (λ (l : List (NodeId × NodeId)). AreGone c.args.pool.now c.args.first.0 c.args.last.0 l h.removed) c.as_slice-pairs.ensures
+          (c.in_ok-removed.ensures.gone c.args.first.0 c.args.last.0 c.in_ok-input.ensures.below c.in_ok-output.ensures.below);
     } in
     let held : IsHeld c.args.pool.now h = chain-held c.args.pool.now c.laws.ensures c.args.first.0 c.args.last.0 a b h c.requires.first c.requires.earlier c.requires.later is in
     record {

@@ -3,7 +3,7 @@ use Rattle.std.proofs.Common.{refl, arith, slice_index_or, subst}
 use Rattle.std.specs.Prelude.{Contains}
 use Rattle.shape_pool.specs.declared.node.NodeId.{NodeId}
 use Rattle.history_merge.specs.Joined.{IsFlipped}
-use Rattle.history_merge.proofs.GatherLaws.{adds-one, gathers-all, gathers-none, gathers-out, gathers-step}
+use Rattle.lists.proofs.Gathering.{adds-one, gathers-all, gathers-none, gathers-out, gathers-step}
 use Rattle.history_merge.proofs.JoinLaws.{any_pair}
 use Rattle.history_merge.proofs.joined.flipped.Goals as goal
 

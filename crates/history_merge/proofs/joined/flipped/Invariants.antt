@@ -1,6 +1,6 @@
 -- The pairs so far, the other way round.
 use Rattle.std.proofs.Common.{take}
-use Rattle.step_history.specs.Gathering.{Gathers}
+use Rattle.lists.specs.Gathering.{Gathers}
 use Rattle.history_merge.specs.Joined.{IsFlipped}
 use Rattle.history_merge.proofs.joined.flipped.Given as goal
 

@@ -1,7 +1,7 @@
 -- What follows the pairs so far is added, and the place is one before which firsts are below those of the pairs that are left.
 use Rattle.std.proofs.Common.{ℕ, ◌≤◌, ◌<◌, length, take, slice_index_or}
 use Rattle.shape_pool.specs.declared.node.NodeId.{NodeId}
-use Rattle.step_history.specs.Gathering.{Adds}
+use Rattle.lists.specs.Gathering.{Adds}
 use Rattle.history_merge.specs.Joined.{AreBefore, IsFollowed}
 use Rattle.history_merge.proofs.joined.follow.Given as goal
 

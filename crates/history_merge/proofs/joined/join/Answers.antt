@@ -2,7 +2,7 @@
 use Rattle.std.proofs.Common.{sym, subst, List}
 use Rattle.std.specs.List.Sorted.{IsStrictlySortedBy}
 use Rattle.shape_pool.specs.declared.node.NodeId.{NodeId}
-use Rattle.step_history.specs.Gathering.{Adds}
+use Rattle.lists.specs.Gathering.{Adds}
 use Rattle.step_history.specs.Numbered.{pair_cmp}
 use Rattle.history_merge.specs.Joined.{IsFollowed}
 use Rattle.history_merge.proofs.JoinLaws.{joined-by}

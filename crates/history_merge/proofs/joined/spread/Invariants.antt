@@ -1,6 +1,6 @@
 -- The pairs so far are added.
 use Rattle.std.proofs.Common.{take}
-use Rattle.step_history.specs.Gathering.{Adds}
+use Rattle.lists.specs.Gathering.{Adds}
 use Rattle.history_merge.specs.Joined.{IsOnto}
 use Rattle.history_merge.proofs.joined.spread.Given as goal
 

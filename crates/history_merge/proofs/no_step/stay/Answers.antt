@@ -2,7 +2,8 @@
 use Rattle.std.proofs.Common.{◌∙◌, refl, sym, subst}
 use Rattle.step_history.specs.History.{IsSupported}
 use Rattle.history_merge.specs.Merged.{Stays}
-use Rattle.history_merge.proofs.GatherLaws.{adds-nothing, adds-one, id_of, named_by, refused}
+use Rattle.lists.proofs.Gathering.{adds-nothing, adds-one, refused}
+use Rattle.history_merge.proofs.GatherLaws.{id_of, named_by}
 use Rattle.history_merge.proofs.no_step.stay.Goals as goal
 
 pub returns-then-not-is_spoken_of : goal.returns-then-not-is_spoken_of

@@ -1,8 +1,8 @@
 -- The numbers are gone through in order, and the pairs are sorted.
 use Rattle.std.proofs.Common.{◌<◌, sym, subst, arith, All, List, ℕ, length}
-use Rattle.step_history.specs.Gathering.{Gathers}
+use Rattle.lists.specs.Gathering.{Gathers}
 use Rattle.history_merge.specs.Merged.{Stays}
-use Rattle.history_merge.proofs.GatherLaws.{gathers-all, gathers-none, gathers-out, gathers-step}
+use Rattle.lists.proofs.Gathering.{gathers-all, gathers-none, gathers-out, gathers-step}
 use Rattle.history_merge.proofs.no_step.stays_of.Goals as goal
 
 pub stay-requires : goal.stay-requires

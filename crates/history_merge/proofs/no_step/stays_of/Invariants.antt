@@ -1,6 +1,6 @@
 -- The pairs of the numbers so far.
 use Rattle.std.proofs.Common.{take}
-use Rattle.step_history.specs.Gathering.{Gathers}
+use Rattle.lists.specs.Gathering.{Gathers}
 use Rattle.history_merge.specs.Merged.{Stays}
 use Rattle.history_merge.proofs.no_step.stays_of.Given as goal
 

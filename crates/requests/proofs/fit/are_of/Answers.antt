@@ -5,7 +5,7 @@ use denote.Enum.Bare.{same_true}
 use Rattle.orientation.specs.contracts.kind.Kind.{the_type}
 use Rattle.shape_pool.specs.Rows.{kind_at}
 use Rattle.shape_pool.specs.Laws.{ids_used}
-use Rattle.requests.proofs.Lists.{All-more}
+use Rattle.lists.proofs.Entries.{All-more}
 use Rattle.requests.proofs.FitLaws.{not-false}
 use Rattle.requests.proofs.fit.are_of.Goals as goal
 

@@ -4,7 +4,7 @@ use Rattle.std.proofs.lemmas.Bool.{eqb-true}
 use Rattle.requests.specs.declared.request.Request.{Request}
 use Rattle.requests.specs.Numbered.{with_live}
 use Rattle.requests.specs.Indexed.{list_at, listed_at, place_of}
-use Rattle.requests.proofs.Lists.{by_test}
+use Rattle.lists.proofs.Cases.{by_test}
 use Rattle.requests.proofs.LiveLaws.{noted-as, list_at-is, nat_eq-apart, on_ok, on_err, place-le, IsNoted}
 use Rattle.requests.proofs.live.note.Goals as goal
 

@@ -1,7 +1,8 @@
 -- Each first is noted.
 use Rattle.std.proofs.Common.{refl, arith, slice_index_or}
 use Rattle.step_history.specs.Gathering.{IsFirst}
-use Rattle.step_history.proofs.GatherLaws.{adds-noted, any_pair, gathers-all, gathers-none, gathers-step}
+use Rattle.lists.proofs.Gathering.{gathers-all, gathers-none, gathers-step}
+use Rattle.step_history.proofs.GatherLaws.{adds-noted, any_pair}
 use Rattle.step_history.proofs.kept.firsts_of.Goals as goal
 
 pub loop-pair-init : goal.loop-pair-init

@@ -1,6 +1,7 @@
 -- The firsts of the pairs so far.
 use Rattle.std.proofs.Common.{take}
-use Rattle.step_history.specs.Gathering.{Gathers, IsFirst}
+use Rattle.lists.specs.Gathering.{Gathers}
+use Rattle.step_history.specs.Gathering.{IsFirst}
 use Rattle.step_history.proofs.kept.firsts_of.Given as goal
 
 abbrev pub invariant-loop-pair : goal.invariant-loop-pair

@@ -1,7 +1,8 @@
 -- The pairs are gone through in order.
 use Rattle.std.proofs.Common.{arith}
 use Rattle.step_history.specs.Gathering.{IsFresh}
-use Rattle.step_history.proofs.GatherLaws.{any_pair, gathers-all, gathers-none, gathers-step}
+use Rattle.lists.proofs.Gathering.{gathers-all, gathers-none, gathers-step}
+use Rattle.step_history.proofs.GatherLaws.{any_pair}
 use Rattle.step_history.proofs.kept.fresh_of.Goals as goal
 
 pub loop-pair-init : goal.loop-pair-init

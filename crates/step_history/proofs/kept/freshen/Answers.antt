@@ -1,7 +1,8 @@
 -- The image is noted where the shape isn't one of the input's.
 use Rattle.std.proofs.Common.{refl, sym, ◌∙◌, true≢false}
 use Rattle.step_history.specs.Gathering.{IsFresh}
-use Rattle.step_history.proofs.GatherLaws.{adds-nothing, adds-noted}
+use Rattle.lists.proofs.Gathering.{adds-nothing}
+use Rattle.step_history.proofs.GatherLaws.{adds-noted}
 use Rattle.step_history.proofs.kept.freshen.Goals as goal
 
 pub returns-then-has : goal.returns-then-has

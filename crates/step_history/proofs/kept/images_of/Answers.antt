@@ -1,7 +1,8 @@
 -- The pairs are gone through in order, and those kept are sorted.
 use Rattle.std.proofs.Common.{arith}
 use Rattle.step_history.specs.Gathering.{IsKept}
-use Rattle.step_history.proofs.GatherLaws.{any_pair, gathers-all, gathers-none, gathers-out, gathers-step}
+use Rattle.lists.proofs.Gathering.{gathers-all, gathers-none, gathers-out, gathers-step}
+use Rattle.step_history.proofs.GatherLaws.{any_pair}
 use Rattle.step_history.proofs.kept.images_of.Goals as goal
 
 pub keep-requires : goal.keep-requires

@@ -1,6 +1,7 @@
 -- The pairs so far are kept.
 use Rattle.std.proofs.Common.{take}
-use Rattle.step_history.specs.Gathering.{Gathers, IsKept}
+use Rattle.lists.specs.Gathering.{Gathers}
+use Rattle.step_history.specs.Gathering.{IsKept}
 use Rattle.step_history.proofs.kept.images_of.Given as goal
 
 abbrev pub invariant-loop-pair : goal.invariant-loop-pair

@@ -1,7 +1,7 @@
 -- The pair is added where its first is one of the input's.
 use Rattle.std.proofs.Common.{refl}
 use Rattle.step_history.specs.Gathering.{IsKept}
-use Rattle.step_history.proofs.GatherLaws.{adds-nothing, adds-one, refused}
+use Rattle.lists.proofs.Gathering.{adds-nothing, adds-one, refused}
 use Rattle.step_history.proofs.kept.keep.Goals as goal
 
 pub returns-then-not-is_of_input : goal.returns-then-not-is_of_input

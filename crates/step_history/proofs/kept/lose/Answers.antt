@@ -1,7 +1,8 @@
 -- The number is added where it is lost.
 use Rattle.std.proofs.Common.{refl}
 use Rattle.step_history.specs.Gathering.{IsLost}
-use Rattle.step_history.proofs.GatherLaws.{adds-nothing, adds-one, named_by, refused}
+use Rattle.lists.proofs.Gathering.{adds-nothing, adds-one, refused}
+use Rattle.step_history.proofs.GatherLaws.{named_by}
 use Rattle.step_history.proofs.kept.lose.Goals as goal
 
 pub returns-then-not-is_lost : goal.returns-then-not-is_lost

@@ -1,7 +1,8 @@
 -- The numbers are gone through in order, and the lost ones are sorted.
 use Rattle.std.proofs.Common.{sym, subst, arith, All, List, ℕ, length, ◌<◌}
-use Rattle.step_history.specs.Gathering.{Gathers, IsLost}
-use Rattle.step_history.proofs.GatherLaws.{gathers-all, gathers-none, gathers-out, gathers-step}
+use Rattle.lists.specs.Gathering.{Gathers}
+use Rattle.step_history.specs.Gathering.{IsLost}
+use Rattle.lists.proofs.Gathering.{gathers-all, gathers-none, gathers-out, gathers-step}
 use Rattle.step_history.proofs.kept.lost_of.Goals as goal
 
 pub lose-requires : goal.lose-requires

@@ -1,6 +1,7 @@
 -- The lost ones of the numbers so far.
 use Rattle.std.proofs.Common.{take}
-use Rattle.step_history.specs.Gathering.{Gathers, IsLost}
+use Rattle.lists.specs.Gathering.{Gathers}
+use Rattle.step_history.specs.Gathering.{IsLost}
 use Rattle.step_history.proofs.kept.lost_of.Given as goal
 
 abbrev pub invariant-loop-id : goal.invariant-loop-id

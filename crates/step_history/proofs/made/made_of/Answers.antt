@@ -1,7 +1,8 @@
 -- The pairs are gone through in order of their firsts.
 use Rattle.std.proofs.Common.{arith}
 use Rattle.step_history.specs.Gathering.{IsMadeOf}
-use Rattle.step_history.proofs.GatherLaws.{any_pair, gathers-all, gathers-in, gathers-none, gathers-out, gathers-step, id_of, members-of}
+use Rattle.lists.proofs.Gathering.{gathers-all, gathers-in, gathers-none, gathers-out, gathers-step}
+use Rattle.step_history.proofs.GatherLaws.{any_pair, id_of, members-of}
 use Rattle.step_history.proofs.MadeLaws.{pairs-held, walk-anew}
 use Rattle.step_history.proofs.made.made_of.Goals as goal
 

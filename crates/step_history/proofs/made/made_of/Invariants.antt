@@ -1,6 +1,7 @@
 -- What was made of the pairs so far is listed, and so is what the walk met.
 use Rattle.std.proofs.Common.{take}
-use Rattle.step_history.specs.Gathering.{Gathers, IsMadeOf, IsWalk}
+use Rattle.lists.specs.Gathering.{Gathers}
+use Rattle.step_history.specs.Gathering.{IsMadeOf, IsWalk}
 use Rattle.step_history.proofs.made.made_of.Given as goal
 
 abbrev pub invariant-loop-pair : goal.invariant-loop-pair

@@ -1,8 +1,10 @@
 -- The walk turns to the pair's first number, and goes on below the second.
 use Rattle.std.proofs.Common.{◌<◌, sym, subst, All, List, ℕ, length}
 use Rattle.shape_pool.specs.declared.node.NodeId.{NodeId}
-use Rattle.step_history.specs.Gathering.{Adds, IsMadeOf, IsPicked, IsWalk}
-use Rattle.step_history.proofs.GatherLaws.{adds-nothing, named_by, refused}
+use Rattle.lists.specs.Gathering.{Adds}
+use Rattle.step_history.specs.Gathering.{IsMadeOf, IsPicked, IsWalk}
+use Rattle.lists.proofs.Gathering.{adds-nothing, refused}
+use Rattle.step_history.proofs.GatherLaws.{named_by}
 use Rattle.step_history.proofs.MadeLaws.{made-adds, made-walk, since-fits, since-held, walk-turned}
 use Rattle.step_history.proofs.made.make.Goals as goal
 

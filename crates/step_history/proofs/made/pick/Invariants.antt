@@ -1,6 +1,7 @@
 -- Those so far that came new are added.
 use Rattle.std.proofs.Common.{take}
-use Rattle.step_history.specs.Gathering.{Adds, IsPicked}
+use Rattle.lists.specs.Gathering.{Adds}
+use Rattle.step_history.specs.Gathering.{IsPicked}
 use Rattle.step_history.proofs.made.pick.Given as goal
 
 abbrev pub invariant-loop-id : goal.invariant-loop-id

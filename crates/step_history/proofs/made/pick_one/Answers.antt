@@ -1,7 +1,8 @@
 -- The pair is added where its second came new.
 use Rattle.std.proofs.Common.{refl}
 use Rattle.step_history.specs.Gathering.{IsPair}
-use Rattle.step_history.proofs.GatherLaws.{adds-nothing, adds-one, id_of, named_by, refused}
+use Rattle.lists.proofs.Gathering.{adds-nothing, adds-one, refused}
+use Rattle.step_history.proofs.GatherLaws.{id_of, named_by}
 use Rattle.step_history.proofs.MadeLaws.{came-is, is-came}
 use Rattle.step_history.proofs.made.pick_one.Goals as goal
 

@@ -4,7 +4,7 @@ use Rattle.std.proofs.lemmas.Bool.{eqb-true}
 use Rattle.requests.specs.declared.request.Request.{Request}
 use Rattle.requests.specs.Numbered.{live_at, with_live}
 use Rattle.requests.specs.Indexed.{listed_at}
-use Rattle.requests.proofs.Lists.{by_test}
+use Rattle.lists.proofs.Cases.{by_test}
 use Rattle.requests.proofs.LiveLaws.{live-source, live-others, nat_eq-apart}
 use Rattle.requests.proofs.table.RequestTable.give.Goals as goal
 

@@ -1,40 +1,13 @@
--- What is read of lists by place.
-use Rattle.std.proofs.Common.{◌≡◌, ◌≢◌, ◌≤◌, ◌<◌, ◌+◌, ◌⊎◌, ℕ, zero, suc, Bool, true, false, List, map}
-use Rattle.std.proofs.Common.{◌++◌, ◌∷◌, [], All, Contains, length, take, set, arith, sym, ◌∙◌, ap}
-use Rattle.std.proofs.Common.{subst, refl, slice_get, slice_index_or, Option, Some, None, inl, inr}
+-- What holds of each thing of a list, place by place.
+use Rattle.std.proofs.Common.{◌≡◌, ◌<◌, ◌+◌, ℕ, zero, suc, List, map}
+use Rattle.std.proofs.Common.{◌∷◌, [], All, length, take, arith, sym, ap, subst, slice_get, Some}
 use Rattle.std.specs.Prelude.{unwrap_or}
-
--- by the two values of a test
-abbrev pub by_test : {P : Type 0} (b : Bool) → (b ≡ true → P) → (b ≡ false → P) → P
-by_test true f g = f refl
-by_test false f g = g refl
-
-pub same_entry : {X : Type 0} {x y : X} {o : Option X} → o ≡ Some x → o ≡ Some y → x ≡ y
-same_entry {x = x} e f = ap (λ o. unwrap_or o x) (sym e ∙ f)
 
 pub slice_get-mapped : {X Y : Type 0} (f : X → Y) (xs : List X) (i : ℕ) (x : X) → slice_get xs i ≡ Some x →
     slice_get (map f xs) i ≡ Some (f x)
 slice_get-mapped f [] i x e = absurd cc
 slice_get-mapped f (y ∷ xs) zero x e = ap Some (ap f (ap (λ o. unwrap_or o y) e))
 slice_get-mapped f (y ∷ xs) (suc i) x e = slice_get-mapped f xs i x e
-
-pub slice_get-left : {X : Type 0} (xs ys : List X) (i : ℕ) → i < length xs → slice_get (xs ++ ys) i ≡ slice_get xs i
-slice_get-left [] ys i h = absurd (omega arith)
-slice_get-left (x ∷ xs) ys zero h = refl
-slice_get-left (x ∷ xs) ys (suc i) h = slice_get-left xs ys i (omega arith)
-
-pub slice_get-set : {X : Type 0} (xs : List X) (i : ℕ) (a : X) → i < length xs → slice_get (set xs i a) i ≡ Some a
-slice_get-set [] i a h = absurd (omega arith)
-slice_get-set (x ∷ xs) zero a h = refl
-slice_get-set (x ∷ xs) (suc i) a h = slice_get-set xs i a (omega arith)
-
-pub slice_get-set-other : {X : Type 0} (xs : List X) (i j : ℕ) (a : X) → i ≢ j →
-    slice_get (set xs i a) j ≡ slice_get xs j
-slice_get-set-other [] i j a n = refl
-slice_get-set-other (x ∷ xs) zero zero a n = absurd (n refl)
-slice_get-set-other (x ∷ xs) zero (suc j) a n = refl
-slice_get-set-other (x ∷ xs) (suc i) zero a n = refl
-slice_get-set-other (x ∷ xs) (suc i) (suc j) a n = slice_get-set-other xs i j a (λ e. n (ap suc e))
 
 pub All-from : {X : Type 0} (P : X → Type 0) (x : X) (xs : List X) → P x → All P xs → All P (x ∷ xs)
 All-from P x xs h k zero d lt = h
