@@ -183,8 +183,8 @@ pub fn whole_lists_hold_all()
     words_are_a_group();
 }
 
-/// Reach and ranks among numbers that stand for trees are those among the trees, and so are first cycles and orders of finishing
-/// where the numbers tell the trees apart.
+/// Reach and ranks among numbers that stand for trees are those among the trees, and so are first cycles and orders of
+/// finishing where the numbers tell the trees apart.
 pub fn numbers_carry()
     ensures reach { (s : Step) → NumbersCarry s }
     ensures searches { (s : Step) → NumbersCarrySearches s }

@@ -28,7 +28,8 @@ Joins firsts seconds made = (y : NodeId × NodeId) → Contains made y ↔ IsJoi
 
 -- a list has just the pairs that are generated, given the images and the generated pairs of two histories
 abbrev pub IsWhollyGenerated :
-    List (NodeId × NodeId) → List (NodeId × NodeId) → List (NodeId × NodeId) → List (NodeId × NodeId) → List (NodeId × NodeId) → Type 0
+    List (NodeId × NodeId) → List (NodeId × NodeId) → List (NodeId × NodeId) → List (NodeId × NodeId) →
+    List (NodeId × NodeId) → Type 0
 IsWhollyGenerated images generated next_images next_generated made =
     (y : NodeId × NodeId) → Contains made y ↔
     (IsJoined images next_generated y ⊎ (IsJoined generated next_images y ⊎ IsJoined generated next_generated y))

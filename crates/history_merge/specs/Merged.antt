@@ -1,4 +1,5 @@
--- The history over no step, by the numbers of a pool's nodes and what it stands for among trees, and the laws of composition.
+-- The history over no step, by the numbers of a pool's nodes and what it stands for among trees, and the laws of
+-- composition.
 use Rattle.std.specs.Prelude.{◌≡◌, ◌↔◌, ℕ, List, [], Contains}
 use Rattle.orientation.specs.declared.kind.Kind.{Kind}
 use Rattle.location_words.specs.declared.pair.Pair.{Pair}
@@ -13,7 +14,8 @@ use Rattle.step_history.specs.Numbered.{IsReading, OccursAt, Tells, tree_by}
 
 -- the pairs of a number of the root and itself, and nothing generated or removed
 pub record IsStartAt (rows : List Row) (root : ℕ) (h : StepHistory) : Type 0 where
-  pub images : (t s : NodeId) → Contains h.images (t, s) ↔ ((t ≡ s) × IsSupported (kind_at rows t.0) × OccursAt rows root t.0)
+  pub images : (t s : NodeId) → Contains h.images (t, s) ↔
+      ((t ≡ s) × IsSupported (kind_at rows t.0) × OccursAt rows root t.0)
   pub generated : h.generated ≡ []
   pub removed : h.removed ≡ []
 
@@ -36,12 +38,15 @@ pairs_of pairs t x = Contains pairs (t, x)
 abbrev pub IsOfRoot : (Tree → Kind) → Tree → Tree → Type 0
 IsOfRoot kind_of root t = IsSupported (kind_of t) × OccursIn t root
 
--- Images compose alike however they are grouped, and the images over no step leave the others as they are: before those whose first
--- trees are of the root, and after those whose second trees are.
+-- Images compose alike however they are grouped, and the images over no step leave the others as they are: before those
+-- whose first trees are of the root, and after those whose second trees are.
 pub record ImagesCompose : Type 0 where
   pub grouped : (a b c : List (Tree × Tree)) (t x : Tree) →
-      followed_by (followed_by (pairs_of a) (pairs_of b)) (pairs_of c) t x ↔ followed_by (pairs_of a) (followed_by (pairs_of b) (pairs_of c)) t x
-  pub before : (kind_of : Tree → Kind) (root : Tree) (a : List (Tree × Tree)) → ((t x : Tree) → Contains a (t, x) → IsOfRoot kind_of root t) →
+      followed_by (followed_by (pairs_of a) (pairs_of b)) (pairs_of c) t x ↔
+      followed_by (pairs_of a) (followed_by (pairs_of b) (pairs_of c)) t x
+  pub before : (kind_of : Tree → Kind) (root : Tree) (a : List (Tree × Tree)) →
+      ((t x : Tree) → Contains a (t, x) → IsOfRoot kind_of root t) →
       (t x : Tree) → followed_by (no_history kind_of root).images (pairs_of a) t x ↔ Contains a (t, x)
-  pub after : (kind_of : Tree → Kind) (root : Tree) (a : List (Tree × Tree)) → ((t x : Tree) → Contains a (t, x) → IsOfRoot kind_of root x) →
+  pub after : (kind_of : Tree → Kind) (root : Tree) (a : List (Tree × Tree)) →
+      ((t x : Tree) → Contains a (t, x) → IsOfRoot kind_of root x) →
       (t x : Tree) → followed_by (pairs_of a) (no_history kind_of root).images t x ↔ Contains a (t, x)

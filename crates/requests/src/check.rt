@@ -25,8 +25,8 @@ const MOST_RANK: usize = 1_024;
 impl RequestTable {
     /// The plan of the step from a root, or why the step isn't carried out.
     ///
-    /// It is a fault where the step's graph has a cycle that the root reaches, and where it has none, but a walk of more
-    /// than 1,024 edges. Only what the root reaches is looked at.
+    /// It is a fault where the step's graph has a cycle that the root reaches, and where it has none, but a walk of
+    /// more than 1,024 edges. Only what the root reaches is looked at.
     pub fn check(&self, pool: &Pool, root: UseOf) -> Result<Plan, CheckFault>
         requires root { root.id.0 < length pool.now }
         requires held { AreHeldIn pool.now self.now.requests }

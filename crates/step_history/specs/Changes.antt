@@ -1,5 +1,5 @@
--- Changes: the ways in which a step may change a root, and what each of them tells to a history. So far there is one way, by
--- requests; a further way is a further case of each definition here, and of the slow lists.
+-- Changes: the ways in which a step may change a root, and what each of them tells to a history. So far there is one
+-- way, by requests; a further way is a further case of each definition here, and of the slow lists.
 use Rattle.orientation.specs.declared.kind.Kind.{Kind}
 use Rattle.expansion_laws.specs.Trees.{Tree, Use}
 use Rattle.expansion_laws.specs.Steps.{Step, kind}

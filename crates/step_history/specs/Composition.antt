@@ -7,7 +7,8 @@ use Rattle.expansion_laws.specs.Equality.{tree_eq}
 use Rattle.expansion_laws.specs.Measures.{subtrees, OccursIn}
 use Rattle.step_history.specs.History.{History, IsSupported, IsGone}
 use Rattle.step_history.specs.Changes.{Change, kind_in, Makes, history_by}
-use Rattle.step_history.specs.SlowHistory.{HistoryLists, ListsHistory, is_supported, gone_listed, lists_all, slow_history}
+use Rattle.step_history.specs.SlowHistory.{HistoryLists, ListsHistory, is_supported}
+use Rattle.step_history.specs.SlowHistory.{gone_listed, lists_all, slow_history}
 
 -- the first relation and then the second
 abbrev pub followed_by : (Tree → Tree → Type 0) → (Tree → Tree → Type 0) → Tree → Tree → Type 0
@@ -25,7 +26,9 @@ no_history kind_of root = record {
 abbrev pub chained : (Tree → Kind) → Tree → Tree → History → History → History
 chained kind_of first last a b = record {
   images = followed_by a.images b.images;
-  generated = λ t x. followed_by a.images b.generated t x ⊎ (followed_by a.generated b.images t x ⊎ followed_by a.generated b.generated t x);
+  generated =
+      λ t x. followed_by a.images b.generated t x ⊎
+      (followed_by a.generated b.images t x ⊎ followed_by a.generated b.generated t x);
   removed = IsGone kind_of first last (followed_by a.images b.images);
 }
 
@@ -59,7 +62,8 @@ pub record TellTheSame (a b : History) : Type 0 where
 
 -- the history of one step in a row is that of its change
 abbrev pub OneStepIsItsChange : Type 0
-OneStepIsItsChange = (d : Done) → TellTheSame (history_after (kind_in d.change) d.before (d ∷ [])) (history_by d.change d.before d.after)
+OneStepIsItsChange =
+    (d : Done) → TellTheSame (history_after (kind_in d.change) d.before (d ∷ [])) (history_by d.change d.before d.after)
 
 -- the first tree of a pair stands in the first root, and the second in the last
 abbrev pub StandsAtBothEnds : Use → List Done → (Tree → Tree → Type 0) → Type 0
@@ -71,7 +75,8 @@ pub record PairsStand (kind_of : Tree → Kind) (first : Use) (steps : List Done
   pub generated : StandsAtBothEnds first steps (history_after kind_of first steps).generated
 
 abbrev pub PairsOfRowsStand : Type 0
-PairsOfRowsStand = (kind_of : Tree → Kind) (first : Use) (steps : List Done) → AreInRow first steps → PairsStand kind_of first steps
+PairsOfRowsStand =
+    (kind_of : Tree → Kind) (first : Use) (steps : List Done) → AreInRow first steps → PairsStand kind_of first steps
 
 -- ---- the same by lists
 abbrev pub then_listed : List (Tree × Tree) → List (Tree × Tree) → List (Tree × Tree)
@@ -80,7 +85,8 @@ then_listed R S = flat_map (λ p. map (λ q. (p.0, q.1)) (filter (λ q. tree_eq 
 abbrev pub chained_listed : (Tree → Kind) → Tree → Tree → HistoryLists → HistoryLists → HistoryLists
 chained_listed kind_of first last a b = record {
   images = then_listed a.images b.images;
-  generated = then_listed a.images b.generated ++ (then_listed a.generated b.images ++ then_listed a.generated b.generated);
+  generated =
+      then_listed a.images b.generated ++ (then_listed a.generated b.images ++ then_listed a.generated b.generated);
   removed = gone_listed kind_of first last (then_listed a.images b.images);
 }
 
@@ -94,7 +100,8 @@ none_listed kind_of root = record {
 abbrev pub slow_after : ℕ → (Tree → Kind) → Use → List Done → HistoryLists
 slow_after n kind_of first [] = none_listed kind_of first.tree
 slow_after n kind_of first (d ∷ ds) =
-    chained_listed kind_of first.tree d.after.tree (slow_after n kind_of first ds) (slow_history d.change n d.before d.after)
+    chained_listed kind_of first.tree d.after.tree (slow_after n kind_of first ds)
+    (slow_history d.change n d.before d.after)
 
 -- so many levels list all in each of the steps
 abbrev pub ListAll : ℕ → List Done → Type 0

@@ -8,12 +8,15 @@ use Rattle.expansion_laws.specs.Trees.{Tree, Use, a_single, tree_of}
 use Rattle.expansion_laws.specs.Expansion.{NumberedUse, tree_of_number, expansion}
 use Rattle.expansion_laws.specs.Contexts.{bare}
 use Rattle.expansion_laws.specs.Requests.{Request, remove, replace}
-use Rattle.expansion_laws.specs.Examples.{plus, minus, step_of, step_under, always, wires, by_wire, after_wire, faces, by_vertex, after_vertex, new_edge, solids, at_place, after_place}
+use Rattle.expansion_laws.specs.Examples.{plus, minus, step_of, step_under, always, wires, by_wire, after_wire}
+use Rattle.expansion_laws.specs.Examples.{faces, by_vertex, after_vertex, new_edge, solids, at_place, after_place}
 use Rattle.step_history.specs.Changes.{Change, by_requests, Makes}
 use Rattle.step_history.specs.SlowHistory.{HistoryLists, lists_all, slow_history, modified_listed}
 
--- a change makes the second root of the first, so many levels list all of it, and these are its history and its modified shapes
-pub record HasHistory (c : Change) (n : ℕ) (before after : Use) (lists : HistoryLists) (changed : List (Tree × Tree)) : Type 0 where
+-- a change makes the second root of the first, so many levels list all of it, and these are its history and its
+-- modified shapes
+pub record HasHistory (c : Change) (n : ℕ) (before after : Use) (lists : HistoryLists)
+    (changed : List (Tree × Tree)) : Type 0 where
   pub makes : Makes c before after
   pub whole : lists_all c n before ≡ true
   pub lists_are : slow_history c n before after ≡ lists
@@ -41,14 +44,15 @@ abbrev pub without : Change
 without = by_requests (step_of (Co ∷ Ve ∷ []) no_vertex)
 
 abbrev pub without_history : HistoryLists
-without_history = record { images = []; generated = []; removed = tree_of_number twofold 2 ∷ tree_of_number twofold 2 ∷ [] }
+without_history =
+    record { images = []; generated = []; removed = tree_of_number twofold 2 ∷ tree_of_number twofold 2 ∷ [] }
 
 -- ---- the same under the prune mark: the compound goes with its uses, and the new root is a compound of origin 0
 abbrev pub pruned_away : Change
 pruned_away = by_requests (step_under pruning (Co ∷ Ve ∷ []) no_vertex)
 
--- ---- an edge is replaced by a wire: the wire's edges are its images, and the vertex that the wire brought came of it; the two
--- vertices that the input has didn't
+-- ---- an edge is replaced by a wire: the wire's edges are its images, and the vertex that the wire brought came of it;
+-- the two vertices that the input has didn't
 abbrev pub wire_history : HistoryLists
 wire_history = record {
   images =
@@ -99,13 +103,16 @@ moved_solid = tree_of 2 (bare (tree_of 3 (bare (tree_of_number solids 4) ∷ bar
 abbrev pub place_history : HistoryLists
 place_history = record {
   images =
-      (tree_of_number solids 2, moved_solid) ∷ (tree_of_number solids 6, tree_of_number solids 4) ∷ unchanged (tree_of_number solids 5) ∷
-      unchanged (tree_of_number solids 2) ∷ unchanged (tree_of_number solids 6) ∷ unchanged (tree_of_number solids 5) ∷ [];
+      (tree_of_number solids 2, moved_solid) ∷ (tree_of_number solids 6, tree_of_number solids 4) ∷
+      unchanged (tree_of_number solids 5) ∷
+      unchanged (tree_of_number solids 2) ∷ unchanged (tree_of_number solids 6) ∷ unchanged (tree_of_number solids 5) ∷
+      [];
   generated = [];
   removed = [];
 }
 
--- ---- two solids of one face each: the face of one is removed under the prune mark, and its shell and its solid go with it
+-- ---- two solids of one face each: the face of one is removed under the prune mark, and its shell and its solid go
+-- with it
 abbrev pub boxes : List (List NumberedUse)
 boxes = [] ∷ (plus 7 ∷ []) ∷ (plus 6 ∷ []) ∷ [] ∷ (plus 4 ∷ []) ∷ (plus 3 ∷ []) ∷ (plus 5 ∷ plus 2 ∷ []) ∷ []
 
@@ -125,17 +132,20 @@ box_history = record {
   removed = tree_of_number boxes 5 ∷ tree_of_number boxes 7 ∷ [];
 }
 
--- ---- one of the solids is removed until solids: the face of the other, at which a visit stops, is its own image, and that of the
--- removed one is gone
+-- ---- one of the solids is removed until solids: the face of the other, at which a visit stops, is its own image, and
+-- that of the removed one is gone
 abbrev pub removed_at_stop : Change
 removed_at_stop = by_requests (step_under (until So) box_kinds (always (tree_of_number boxes 5) remove ∷ []))
 
--- ---- a face is replaced until faces: a visit stops at the new face, and yet the edge and the vertex below it came of the old one
+-- ---- a face is replaced until faces: a visit stops at the new face, and yet the edge and the vertex below it came of
+-- the old one
 abbrev pub new_face : Tree
 new_face = tree_of 3 (bare (tree_of 4 (bare (tree_of 5 (bare (tree_of 6 []) ∷ [])) ∷ [])) ∷ [])
 
 abbrev pub face_at_stop : Change
-face_at_stop = by_requests (step_under (until Fa) (Co ∷ Fa ∷ Fa ∷ Wi ∷ Ed ∷ Ve ∷ []) (always (tree_of 2 []) (replace (bare new_face)) ∷ []))
+face_at_stop =
+    by_requests (step_under (until Fa) (Co ∷ Fa ∷ Fa ∷ Wi ∷ Ed ∷ Ve ∷ [])
+    (always (tree_of 2 []) (replace (bare new_face)) ∷ []))
 
 abbrev pub before_stop : Use
 before_stop = bare (tree_of 1 (bare (tree_of 2 []) ∷ []))
@@ -162,7 +172,8 @@ its_wire = tree_of 2 (bare old_edge ∷ [])
 
 abbrev pub coming_back : Change
 coming_back =
-    by_requests (step_of (Co ∷ Wi ∷ Ed ∷ Ve ∷ Ve ∷ []) (always its_wire remove ∷ always (tree_of 5 []) (replace (bare (tree_of 4 []))) ∷ []))
+    by_requests (step_of (Co ∷ Wi ∷ Ed ∷ Ve ∷ Ve ∷ [])
+    (always its_wire remove ∷ always (tree_of 5 []) (replace (bare (tree_of 4 []))) ∷ []))
 
 abbrev pub before_back : Use
 before_back = bare (tree_of 1 (bare its_wire ∷ bare other_edge ∷ []))
@@ -177,8 +188,9 @@ back_history = record {
   removed = [];
 }
 
--- ---- the edge of a face is replaced by a wire whose edge is replaced in its turn, and a wire by another: the vertex of the last edge
--- came of the face's old edge alone; nothing came of the face, which no request meets, nor of a wire, of which no history speaks
+-- ---- the edge of a face is replaced by a wire whose edge is replaced in its turn, and a wire by another: the vertex
+-- of the last edge came of the face's old edge alone; nothing came of the face, which no request meets, nor of a wire,
+-- of which no history speaks
 abbrev pub brought_edge : Tree
 brought_edge = tree_of 4 []
 
@@ -192,7 +204,8 @@ abbrev pub twice_replaced : Change
 twice_replaced =
     by_requests (step_of (Co ∷ Ed ∷ Wi ∷ Ed ∷ Wi ∷ Ed ∷ Ve ∷ Wi ∷ Wi ∷ Ed ∷ Ve ∷ Fa ∷ Wi ∷ [])
     (always (tree_of 2 []) (replace (bare (tree_of 3 (bare brought_edge ∷ [])))) ∷
-    always brought_edge (replace (bare (tree_of 5 (bare last_edge ∷ [])))) ∷ always (tree_of 8 []) (replace (bare last_wire)) ∷ []))
+    always brought_edge (replace (bare (tree_of 5 (bare last_edge ∷ [])))) ∷
+    always (tree_of 8 []) (replace (bare last_wire)) ∷ []))
 
 abbrev pub face_over : Tree → Tree
 face_over edge = tree_of 12 (bare (tree_of 13 (bare edge ∷ [])) ∷ [])
@@ -210,9 +223,9 @@ twice_history = record {
   removed = [];
 }
 
--- ---- a face is replaced by a shell of one face, over an edge that the input has and one that it lacks, and their vertices are
--- replaced: of the face came what is an image of a tree that the input lacks, also where the input has the image itself; the first edge
--- is new as well, but it is what an edge of the input became
+-- ---- a face is replaced by a shell of one face, over an edge that the input has and one that it lacks, and their
+-- vertices are replaced: of the face came what is an image of a tree that the input lacks, also where the input has the
+-- image itself; the first edge is new as well, but it is what an edge of the input became
 abbrev pub known : Tree → Tree
 known vertex = tree_of 3 (bare vertex ∷ [])
 
@@ -226,14 +239,17 @@ abbrev pub brought_face : Change
 brought_face =
     by_requests (step_of (Co ∷ Fa ∷ Ed ∷ Fa ∷ Ve ∷ Ve ∷ Sh ∷ Wi ∷ Ed ∷ Ve ∷ Ve ∷ [])
     (always (tree_of 2 []) (replace (bare (tree_of 7 (bare (face_of_both (tree_of 5 []) (tree_of 10 [])) ∷ [])))) ∷
-    always (tree_of 5 []) (replace (bare (tree_of 6 []))) ∷ always (tree_of 10 []) (replace (bare (tree_of 11 []))) ∷ []))
+    always (tree_of 5 []) (replace (bare (tree_of 6 []))) ∷ always (tree_of 10 []) (replace (bare (tree_of 11 []))) ∷
+    []))
 
 abbrev pub before_brought : Use
 before_brought = bare (tree_of 1 (bare (tree_of 2 []) ∷ bare (known (tree_of 5 [])) ∷ bare (tree_of 11 []) ∷ []))
 
 abbrev pub after_brought : Use
 after_brought =
-    bare (tree_of 1 (bare (face_of_both (tree_of 6 []) (tree_of 11 [])) ∷ bare (known (tree_of 6 [])) ∷ bare (tree_of 11 []) ∷ []))
+    bare
+    (tree_of 1 (bare (face_of_both (tree_of 6 []) (tree_of 11 [])) ∷ bare (known (tree_of 6 [])) ∷
+    bare (tree_of 11 []) ∷ []))
 
 abbrev pub brought_history : HistoryLists
 brought_history = record {
@@ -241,7 +257,8 @@ brought_history = record {
       (tree_of 2 [], face_of_both (tree_of 6 []) (tree_of 11 [])) ∷
       (known (tree_of 5 []), known (tree_of 6 [])) ∷ (tree_of 5 [], tree_of 6 []) ∷ unchanged (tree_of 11 []) ∷
       (known (tree_of 5 []), known (tree_of 6 [])) ∷ (tree_of 5 [], tree_of 6 []) ∷ unchanged (tree_of 11 []) ∷ [];
-  generated = (tree_of 2 [], tree_of 6 []) ∷ (tree_of 2 [], unknown (tree_of 11 [])) ∷ (tree_of 2 [], tree_of 11 []) ∷ [];
+  generated =
+      (tree_of 2 [], tree_of 6 []) ∷ (tree_of 2 [], unknown (tree_of 11 [])) ∷ (tree_of 2 [], tree_of 11 []) ∷ [];
   removed = [];
 }
 
@@ -252,9 +269,12 @@ pub record HistoriesComeOut : Type 0 where
   pub edge_by_wire : HasHistory (by_requests by_wire) 4 (expansion wires (plus 1)) after_wire wire_history
       ((tree_of_number wires 6, tree_of_number wires 5) ∷ (tree_of_number wires 6, tree_of_number wires 4) ∷ [])
   pub shared_edge : HasHistory (by_requests by_vertex) 5 (expansion faces (plus 1)) after_vertex vertex_history
-      ((tree_of_number faces 3, front) ∷ (tree_of_number faces 6, new_edge) ∷ (tree_of_number faces 8, tree_of_number faces 7) ∷
-      (tree_of_number faces 2, back) ∷ (tree_of_number faces 6, new_edge) ∷ (tree_of_number faces 8, tree_of_number faces 7) ∷ [])
-  pub stopped_at_faces : HasHistory until_faces 1 (expansion faces (plus 1)) (expansion faces (plus 1)) until_faces_history []
+      ((tree_of_number faces 3, front) ∷ (tree_of_number faces 6, new_edge) ∷
+      (tree_of_number faces 8, tree_of_number faces 7) ∷
+      (tree_of_number faces 2, back) ∷ (tree_of_number faces 6, new_edge) ∷
+      (tree_of_number faces 8, tree_of_number faces 7) ∷ [])
+  pub stopped_at_faces : HasHistory until_faces 1 (expansion faces (plus 1)) (expansion faces (plus 1))
+      until_faces_history []
   pub face_at_place : HasHistory (by_requests at_place) 4 (expansion solids (plus 1)) after_place place_history
       ((tree_of_number solids 2, moved_solid) ∷ (tree_of_number solids 6, tree_of_number solids 4) ∷ [])
   pub solid_pruned : HasHistory pruned_box 3 (expansion boxes (plus 1)) after_box box_history []

@@ -20,7 +20,8 @@ module _ (rows : List Row) where
   abbrev pub IsClosed : List ℕ → Type 0
   IsClosed met = (i j : ℕ) → Contains met i → Contains (ids_used rows i) j → Contains met j
 
-  -- after those met before come some that are reached from given numbers, and with them these are met, and all below each
+  -- after those met before come some that are reached from given numbers, and with them these are met, and all below
+  -- each
   pub record Meets (from old new : List ℕ) : Type 0 where
     pub more : List ℕ
     pub grows : new ≡ old ++ more
@@ -32,9 +33,12 @@ module _ (rows : List Row) where
   abbrev pub IsKept : List ℕ → NodeId × NodeId → NodeId × NodeId → Type 0
   IsKept input p y = (p ≡ y) × IsSupported (kind_at rows p.0.0) × Contains input p.0.0
 
-  -- a number that is first in no pair, given the first ones, and isn't one of the output's
+  -- a number of which histories speak that is first in no pair, given the first ones, and isn't one of the output's
+  abbrev pub IsLeftOut : List ℕ → List ℕ → ℕ → Type 0
+  IsLeftOut output firsts i = IsSupported (kind_at rows i) × (Contains firsts i → ⊥) × (Contains output i → ⊥)
+
   abbrev pub IsLost : List ℕ → List ℕ → ℕ → NodeId → Type 0
-  IsLost output firsts i y = (i ≡ y.0) × IsSupported (kind_at rows i) × (Contains firsts i → ⊥) × (Contains output i → ⊥)
+  IsLost output firsts i y = (i ≡ y.0) × IsLeftOut output firsts i
 
   -- a number of a lower kind that is new, given the new ones
   pub record CameNew (fresh : List ℕ) (t s : ℕ) : Type 0 where
@@ -44,7 +48,8 @@ module _ (rows : List Row) where
 
   -- what is told of such a number by tests
   abbrev pub IsNewOf : List ℕ → ℕ → ℕ → Type 0
-  IsNewOf fresh t s = IsSupported (kind_at rows s) × IsTrue (is_above (kind_at rows s) (kind_at rows t)) × Contains fresh s
+  IsNewOf fresh t s =
+      IsSupported (kind_at rows s) × IsTrue (is_above (kind_at rows s) (kind_at rows t)) × Contains fresh s
 
   -- a pair of a number and one that came new of it
   abbrev pub IsPair : List ℕ → NodeId → ℕ → NodeId × NodeId → Type 0
@@ -57,9 +62,11 @@ module _ (rows : List Row) where
   -- what came new of a number of the input, below what took its place
   abbrev pub IsMadeOf : List ℕ → List ℕ → NodeId × NodeId → NodeId × NodeId → Type 0
   IsMadeOf input fresh p y =
-      (p.0 ≡ y.0) × IsSupported (kind_at rows p.0.0) × Contains input p.0.0 × StandsBelowAt rows y.1.0 p.1.0 × CameNew fresh p.0.0 y.1.0
+      (p.0 ≡ y.0) × IsSupported (kind_at rows p.0.0) × Contains input p.0.0 × StandsBelowAt rows y.1.0 p.1.0 ×
+      CameNew fresh p.0.0 y.1.0
 
-  -- A walk below what took the place of a number: with each number that is met all below it is met, and those that came new are listed.
+  -- A walk below what took the place of a number: with each number that is met all below it is met, and those that came
+  -- new are listed.
   pub record IsWalk (fresh : List ℕ) (from : NodeId) (met : List ℕ) (out : List (NodeId × NodeId)) : Type 0 where
     pub closed : IsClosed met
     pub listed : (s : NodeId) → Contains met s.0 → CameNew fresh from.0 s.0 → Contains out (from, s)
@@ -72,7 +79,8 @@ abbrev pub IsFresh : List ℕ → NodeId × NodeId → ℕ → Type 0
 IsFresh input p i = (p.1.0 ≡ i) × (Contains input p.0.0 → ⊥)
 
 -- what the pairs of a history are read off from, given the numbers of the input
-pub record IsReadOff (rows : List Row) (input : List ℕ) (imaged replacing : List (NodeId × NodeId)) (h : StepHistory) : Type 0 where
+pub record IsReadOff (rows : List Row) (input : List ℕ) (imaged replacing : List (NodeId × NodeId))
+    (h : StepHistory) : Type 0 where
   pub fresh : List ℕ
   pub keeps : Gathers (IsKept rows input) imaged h.images
   pub news : Gathers (IsFresh input) imaged fresh

@@ -8,7 +8,8 @@ use Rattle.expansion_laws.specs.Measures.{OccursIn, StandsBelow}
 use Rattle.expansion_laws.specs.Steps.{Step, kind}
 use Rattle.expansion_laws.specs.Visits.{IsImage, IsReplaced}
 
--- a history: the pairs of a tree and its image, the pairs of a tree and what was generated from it, and the trees removed
+-- a history: the pairs of a tree and its image, the pairs of a tree and what was generated from it, and the trees
+-- removed
 pub record History : Type 1 where
   pub images : Tree → Tree → Type 0
   pub generated : Tree → Tree → Type 0
@@ -20,17 +21,19 @@ IsSupported k = (k ≡ Ve) ⊎ (k ≡ Ed) ⊎ (k ≡ Fa) ⊎ (k ≡ So)
 
 -- the trees of a first root that are first in no pair of a relation and don't occur in a last root
 abbrev pub IsGone : (Tree → Kind) → Tree → Tree → (Tree → Tree → Type 0) → Tree → Type 0
-IsGone kind_of before after R t = IsSupported (kind_of t) × OccursIn t before × ((s : Tree) → R t s → ⊥) × (OccursIn t after → ⊥)
+IsGone kind_of before after R t =
+    IsSupported (kind_of t) × OccursIn t before × ((s : Tree) → R t s → ⊥) × (OccursIn t after → ⊥)
 
--- What a history is read from: the kinds, the root's tree before and after, which trees have which images, and which trees took
--- the place of a replaced tree. Each way of changing a root gives these.
-module _ (kind_of : Tree → Kind) (before after : Tree) (IsImageOf : Tree → Tree → Type 0) (IsReplacedBy : Tree → Tree → Type 0) where
+-- What a history is read from: the kinds, the root's tree before and after, which trees have which images, and which
+-- trees took the place of a replaced tree. Each way of changing a root gives these.
+module _ (kind_of : Tree → Kind) (before after : Tree) (IsImageOf : Tree → Tree → Type 0)
+    (IsReplacedBy : Tree → Tree → Type 0) where
   -- the images of the trees of the input
   abbrev pub images_of : Tree → Tree → Type 0
   images_of t s = IsSupported (kind_of t) × OccursIn t before × IsImageOf t s
 
-  -- what came of a replaced tree of the input: a tree of a lower kind properly below one that took its place, which is an image of
-  -- a tree that the input doesn't have
+  -- what came of a replaced tree of the input: a tree of a lower kind properly below one that took its place, which is
+  -- an image of a tree that the input doesn't have
   abbrev pub generated_of : Tree → Tree → Type 0
   generated_of t s =
       (made : Tree) × (q : Tree) × IsSupported (kind_of t) × OccursIn t before × IsReplacedBy t made ×

@@ -51,7 +51,8 @@ StandsBelowAt rows i above = (u : ℕ) × Contains (ids_used rows above) u × Oc
 -- the numbers of a first root that are first in no pair and don't occur in a last root
 abbrev pub IsGoneAt : List Row → ℕ → ℕ → List (NodeId × NodeId) → NodeId → Type 0
 IsGoneAt rows before after pairs t =
-    IsSupported (kind_at rows t.0) × OccursAt rows before t.0 × ((s : NodeId) → Contains pairs (t, s) → ⊥) × (OccursAt rows after t.0 → ⊥)
+    IsSupported (kind_at rows t.0) × OccursAt rows before t.0 × ((s : NodeId) → Contains pairs (t, s) → ⊥) ×
+    (OccursAt rows after t.0 → ⊥)
 
 -- a list has just the numbers that occur in the tree of a root, and just those that are gone
 abbrev pub AreBelow : List Row → ℕ → List ℕ → Type 0
@@ -68,8 +69,10 @@ module _ (rows : List Row) (before after : ℕ) (imaged replaced : List (NodeId 
   -- what came of a replaced number of the input
   abbrev pub IsGeneratedAt : NodeId → NodeId → Type 0
   IsGeneratedAt t s =
-      (made : NodeId) × (q : NodeId) × IsSupported (kind_at rows t.0) × OccursAt rows before t.0 × Contains replaced (t, made) ×
-      IsSupported (kind_at rows s.0) × (rank_of (kind_at rows s.0) < rank_of (kind_at rows t.0)) × StandsBelowAt rows s.0 made.0 ×
+      (made : NodeId) × (q : NodeId) × IsSupported (kind_at rows t.0) × OccursAt rows before t.0 ×
+      Contains replaced (t, made) ×
+      IsSupported (kind_at rows s.0) × (rank_of (kind_at rows s.0) < rank_of (kind_at rows t.0)) ×
+      StandsBelowAt rows s.0 made.0 ×
       (OccursAt rows before q.0 → ⊥) × Contains imaged (q, s)
 
   -- the lists of a history have just these
@@ -95,11 +98,12 @@ pub record Tells (tree : NodeId → Tree) (h : StepHistory) (told : History) : T
   pub generated : ListsPairs tree h.generated told.generated
   pub removed : ListsTrees tree h.removed told.removed
 
--- Under each reading: where the lists have just the images of a change and what took the place of replaced trees, the history is
--- that of the change.
+-- Under each reading: where the lists have just the images of a change and what took the place of replaced trees, the
+-- history is that of the change.
 abbrev pub TellsStep : List Row → ℕ → ℕ → List (NodeId × NodeId) → List (NodeId × NodeId) → StepHistory → Type 0
 TellsStep rows before after images replaced h =
     (c : Change) (first last : Use) (word : ℕ → List Pair) (n : ℕ) → IsReading rows (kind_in c) word n →
     first.tree ≡ tree_at word rows before → last.tree ≡ tree_at word rows after →
-    ListsPairs (tree_by word rows) images (Becomes c first) → ListsPairs (tree_by word rows) replaced (TakesPlace c first) →
+    ListsPairs (tree_by word rows) images (Becomes c first) →
+    ListsPairs (tree_by word rows) replaced (TakesPlace c first) →
     Tells (tree_by word rows) h (history_by c first last)

@@ -24,14 +24,15 @@ once (p ∷ ps) = if list_any (λ q. tree_eq q.0 p.0 && tree_eq q.1 p.1) ps then
 abbrev pub both_listed : ℕ → Done → Done → HistoryLists
 both_listed n one two = slow_after n (kind_in one.change) one.before (two ∷ one ∷ [])
 
--- two steps were carried out in a row, so many levels list all of them, and these are the modified and generated pairs and the
--- removed trees
-pub record HasHistoryOfBoth (n : ℕ) (one two : Done) (changed came : List (Tree × Tree)) (gone : List Tree) : Type 0 where
-  pub in_row : AreInRow one.before (two ∷ one ∷ [])
-  pub whole : ListAll n (two ∷ one ∷ [])
-  pub modified_are : once (modified_listed (both_listed n one two).images) ≡ changed
-  pub generated_are : once (both_listed n one two).generated ≡ came
-  pub removed_are : (both_listed n one two).removed ≡ gone
+-- two steps were carried out in a row, so many levels list all of them, and these are the modified and generated pairs
+-- and the removed trees
+pub record HasHistoryOfBoth (n : ℕ) (one two : Done) (changed came : List (Tree × Tree)) (gone : List Tree) : Type 0
+  where
+    pub in_row : AreInRow one.before (two ∷ one ∷ [])
+    pub whole : ListAll n (two ∷ one ∷ [])
+    pub modified_are : once (modified_listed (both_listed n one two).images) ≡ changed
+    pub generated_are : once (both_listed n one two).generated ≡ came
+    pub removed_are : (both_listed n one two).removed ≡ gone
 
 -- ---- the vertices of two edges are merged, and then the edges are sewn, the second one reversed
 abbrev pub sewn : List (List NumberedUse)
@@ -48,7 +49,10 @@ merged_edge = tree_of 2 (bare (shape 6) ∷ a_single Reversed [] (shape 7) ∷ [
 
 abbrev pub merging : Done
 merging = record {
-  change = by_requests (step_of sewn_kinds (always (shape 5) (replace (bare (shape 6))) ∷ always (shape 4) (replace (bare (shape 7))) ∷ []));
+  change =
+      by_requests
+      (step_of sewn_kinds (always (shape 5) (replace (bare (shape 6))) ∷ always (shape 4) (replace (bare (shape 7))) ∷
+      []));
   before = expansion sewn (plus 1);
   after = bare (tree_of 1 (bare (shape 3) ∷ bare merged_edge ∷ []));
 }
@@ -60,8 +64,9 @@ sewing = record {
   after = bare (tree_of 1 (bare (shape 3) ∷ a_single Reversed [] (shape 3) ∷ []));
 }
 
--- ---- a face is replaced by a shell of two faces, one of them over an edge; then the one face is replaced, at its place and under its
--- turn, by a shell that brings an edge, and the edge of the other by a wire that brings an edge over a vertex
+-- ---- a face is replaced by a shell of two faces, one of them over an edge; then the one face is replaced, at its
+-- place and under its turn, by a shell that brings an edge, and the edge of the other by a wire that brings an edge
+-- over a vertex
 abbrev pub here_alone : Tree → Act → Request
 here_alone x act = record { source = x; place = Some []; turn = Some Forward; act = act }
 
@@ -147,9 +152,12 @@ replacing = record { change = by_requests by_vertex; before = expansion faces (p
 -- what comes of two steps
 pub record RowsComeOut : Type 0 where
   -- the second edge became the merged one and then the first, and the vertices what they were merged into
-  pub merged_and_sewn : HasHistoryOfBoth 3 merging sewing ((shape 2, shape 3) ∷ (shape 5, shape 6) ∷ (shape 4, shape 7) ∷ []) [] []
-  -- of the face came an edge by its image, an edge that an edge became which came of it, and a vertex that came of that edge
-  pub generated_three_ways : HasHistoryOfBoth 5 halving refining ((first_face, later_face) ∷ (first_face, right_face edge_over_vertex) ∷ [])
+  pub merged_and_sewn : HasHistoryOfBoth 3 merging sewing
+      ((shape 2, shape 3) ∷ (shape 5, shape 6) ∷ (shape 4, shape 7) ∷ []) [] []
+  -- of the face came an edge by its image, an edge that an edge became which came of it, and a vertex that came of that
+  -- edge
+  pub generated_three_ways : HasHistoryOfBoth 5 halving refining
+      ((first_face, later_face) ∷ (first_face, right_face edge_over_vertex) ∷ [])
       ((first_face, later_edge) ∷ (first_face, edge_over_vertex) ∷ (first_face, later_vertex) ∷ []) []
   -- a vertex that became another is removed with it
   pub merged_then_removed : HasHistoryOfBoth 2 one_point no_point [] [] (point 3 ∷ point 2 ∷ [])

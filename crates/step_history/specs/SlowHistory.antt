@@ -1,5 +1,6 @@
 -- The history of a change by plain slow lists: all visits one by one, and tests of trees.
-use Rattle.std.specs.Prelude.{◌≡◌, ◌↔◌, ◌&&◌, not, nat_lt, ℕ, suc, Bool, true, false, Option, None, Some, is_none, unwrap_or, List, [], ◌++◌, map, filter, Contains}
+use Rattle.std.specs.Prelude.{◌≡◌, ◌↔◌, ◌&&◌, not, nat_lt, ℕ, suc, Bool, true, false, Option, None}
+use Rattle.std.specs.Prelude.{Some, is_none, unwrap_or, List, [], ◌++◌, map, filter, Contains}
 use Rattle.std.specs.List.{list_any, flat_map}
 use Rattle.orientation.specs.declared.kind.Kind.{Kind}
 use Rattle.orientation.specs.declared.kind.Kind.TheVariants.{Ve, Ed, Wi, Fa, Sh, So, CS, Co}
@@ -101,7 +102,9 @@ module _ (kind_of : Tree → Kind) (before after : Tree) (imaged replaced : List
   came_new t x = is_supported (kind_of x) && (nat_lt (rank_of (kind_of x)) (rank_of (kind_of t)) && is_new x)
 
   abbrev pub generated_listed : List (Tree × Tree)
-  generated_listed = flat_map (λ p. map (λ x. (p.0, x)) (filter (came_new p.0) (trees_below p.1))) (filter (λ p. is_of_input p.0) replaced)
+  generated_listed =
+      flat_map (λ p. map (λ x. (p.0, x)) (filter (came_new p.0) (trees_below p.1)))
+      (filter (λ p. is_of_input p.0) replaced)
 
   abbrev pub removed_listed : List Tree
   removed_listed = gone_listed kind_of before after images_listed
@@ -109,7 +112,8 @@ module _ (kind_of : Tree → Kind) (before after : Tree) (imaged replaced : List
   abbrev pub lists_of : HistoryLists
   lists_of = record { images = images_listed; generated = generated_listed; removed = removed_listed }
 
--- ---- by the cases of a change: its images, what took the place of replaced trees, and whether so many levels list them all
+-- ---- by the cases of a change: its images, what took the place of replaced trees, and whether so many levels list
+-- them all
 abbrev pub image_list_by : Change → ℕ → Use → List (Tree × Tree)
 image_list_by (by_requests s) = image_list s
 
@@ -120,7 +124,8 @@ abbrev pub lists_all : Change → ℕ → Use → Bool
 lists_all (by_requests s) n root = is_whole s n root.tree (inside at_root root)
 
 abbrev pub slow_history : Change → ℕ → Use → Use → HistoryLists
-slow_history c n before after = lists_of (kind_in c) before.tree after.tree (image_list_by c n before) (replaced_list_by c n before)
+slow_history c n before after =
+    lists_of (kind_in c) before.tree after.tree (image_list_by c n before) (replaced_list_by c n before)
 
 -- the lists have just what the relations do
 pub record ListsHistory (lists : HistoryLists) (h : History) : Type 0 where

@@ -8,8 +8,8 @@ use crate::met::Met;
 use shape_pool::{NodeId, Pool};
 use std::alloc::{AllocError, Global};
 
-/// Meets a node and all below it, of which nothing that was met before is gone over again. It calls itself no deeper than a pool's
-/// trees are.
+/// Meets a node and all below it, of which nothing that was met before is gone over again. It calls itself no deeper
+/// than a pool's trees are.
 #[cycle(walk)]
 fn meet(pool: &Pool, id: NodeId, met: &mut Met) -> Result<(), AllocError>
     requires id { id.0 < length pool.now }

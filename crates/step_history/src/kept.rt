@@ -4,7 +4,7 @@ ghost use Rattle.std.specs.List.Sorted.{IsStrictlySortedBy};
 ghost use Rattle.shape_pool.specs.Rows.{kind_at};
 ghost use Rattle.step_history.specs.History.{IsSupported};
 ghost use Rattle.lists.specs.Gathering.{Adds, Gathers};
-ghost use Rattle.step_history.specs.Gathering.{IsFirst, IsFresh, IsKept, IsLost};
+ghost use Rattle.step_history.specs.Gathering.{IsFirst, IsFresh, IsKept, IsLeftOut, IsLost};
 ghost use Rattle.step_history.specs.Numbered.{id_cmp, pair_cmp, AreBelow, AreGone, ArePairsHeld};
 
 use crate::ascending::{ascending_ids, ascending_pairs};
@@ -80,7 +80,7 @@ fn firsts_of(alloc: Global, pairs: &[(NodeId, NodeId)]) -> Result<Met, AllocErro
 /// Whether a shape has no image and isn't of the output.
 fn is_lost(pool: &Pool, output: &Met, firsts: &Met, id: u32) -> bool
     requires { id < length pool.now }
-    ensures { IsTrue result ↔ (IsSupported (kind_at pool.now id) × ¬ Contains firsts.now id × ¬ Contains output.now id) }
+    ensures { IsTrue result ↔ IsLeftOut pool.now output.now firsts.now id }
 {
     is_spoken_of(pool.kind(NodeId(id))) && !firsts.has(id) && !output.has(id)
 }

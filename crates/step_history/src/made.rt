@@ -89,7 +89,8 @@ fn pick(
     Ok(())
 }
 
-/// Adds what came new of a shape of the input below one that took its place, and wasn't met yet on the walk for that shape.
+/// Adds what came new of a shape of the input below one that took its place, and wasn't met yet on the walk for that
+/// shape.
 fn make(
     pool: &Pool,
     input: &Met,

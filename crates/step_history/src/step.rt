@@ -40,10 +40,11 @@ fn read_off(
     })
 }
 
-/// The history of a step from one root to another, given the images of all trees that the step visited, and the pairs of a tree that
-/// met a replace and one that took its place.
+/// The history of a step from one root to another, given the images of all trees that the step visited, and the pairs
+/// of a tree that met a replace and one that took its place.
 ///
-/// It goes over the nodes below both roots once, and over those below what took a shape's place once for each such shape.
+/// It goes over the nodes below both roots once, and over those below what took a shape's place once for each such
+/// shape.
 pub fn of_step(
     pool: &Pool,
     before: NodeId,
