@@ -10,3 +10,4 @@ pub mod Results
 pub mod Iterators
 pub mod Gathering
 pub mod Entries
+pub mod Errors

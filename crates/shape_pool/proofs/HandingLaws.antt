@@ -1,7 +1,6 @@
 -- Handing nodes in, and looking them up.
 use Rattle.std.proofs.Common.{◌≡◌, ◌≤◌, ◌<◌, ◌≢◌, ℕ, suc, List, map, length, All, arith, sym, ◌∙◌}
-use Rattle.std.proofs.Common.{ap, subst, refl, slice_get, slice_index_or, Result, Ok, Err, Some}
-use Rattle.std.specs.Result.{IfErr, IsErrAnd}
+use Rattle.std.proofs.Common.{ap, subst, refl, slice_get, slice_index_or, Some}
 use Rattle.std.specs.Option.{option_map}
 use Rattle.std.proofs.lemmas.List.{length-map}
 use Rattle.std.proofs.lemmas.Option.{slice_get-map}
@@ -21,12 +20,6 @@ use Rattle.lists.proofs.Places.{at_place}
 use Rattle.shape_pool.proofs.RowLaws.{uses-entry}
 use Rattle.shape_pool.proofs.HeldLaws.{node-tree}
 use Rattle.shape_pool.proofs.IndexLaws.{found-as, missing-as, greatest-rows}
-
--- a fault that is passed on
-pub IfErr-on : {A : Type 0} (r : Result A PoolFault) (e : PoolFault) (P : PoolFault → Type 0) →
-    IsErrAnd r (λ z. z ≡ e) → P e → IfErr r P
-IfErr-on (Ok u) e P wrong h = absurd wrong
-IfErr-on (Err z) e P is h = subst P (sym is) h
 
 module _ (held : List Held) (us : List UseOf) (all : AllHeld (rows_of held) us) where
   pub uses-within : All (λ (u : UseOf). u.id.0 < length held) us

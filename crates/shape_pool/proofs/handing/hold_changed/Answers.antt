@@ -5,7 +5,8 @@ use Rattle.shape_pool.specs.declared.held.Held.{Held}
 use Rattle.shape_pool.specs.Rows.{kind_at, origin_at, greatest}
 use Rattle.shape_pool.specs.Calls.{IsRefused}
 use Rattle.shape_pool.specs.Held.{rows_of, stored_depth, IsOver, IsTooDeep}
-use Rattle.shape_pool.proofs.HandingLaws.{IfErr-on, refused-deep, refused-many, within}
+use Rattle.lists.proofs.Errors.{IfErr-on}
+use Rattle.shape_pool.proofs.HandingLaws.{refused-deep, refused-many, within}
 use Rattle.shape_pool.proofs.IndexLaws.{entered}
 use Rattle.shape_pool.proofs.CallLaws.{kind-of-held, compound-of-held}
 use Rattle.shape_pool.proofs.handing.hold_changed.Goals as goal

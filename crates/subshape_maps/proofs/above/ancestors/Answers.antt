@@ -3,9 +3,10 @@ use Rattle.std.proofs.Common.{◌∙◌, sym, subst}
 use Rattle.std.specs.Prelude.{List, Some}
 use Rattle.lists.specs.Distinct.{IsDistinct}
 use Rattle.lists.proofs.Distinct.{IsDistinct-filter}
+use Rattle.lists.proofs.Errors.{IfErr-on}
 use Rattle.subshape_maps.specs.declared.shape.ShapeAt.{ShapeAt}
 use Rattle.subshape_maps.specs.Numbered.{is_asked_at, occurrences_by, root_at, IsMap}
-use Rattle.subshape_maps.specs.Above.{counted, rows_of, pairs_by}
+use Rattle.subshape_maps.specs.Above.{counted, rows_of, pairs_by, IsDueAncestors}
 use Rattle.subshape_maps.proofs.MetLemmas.{ShapesAreTold}
 use Rattle.subshape_maps.proofs.NumberLemmas.{shapes-told, places-stay, still-held}
 use Rattle.subshape_maps.proofs.ListLemmas.{map-is}
@@ -37,11 +38,13 @@ returns-in_err-rows-clause-refused c =
     map-is rows c.laws.ensures told mid old c.in_ok-seen.ensures.grows c.requires.places c.args.root c.requires.root c.requires.place (Some c.args.low) c.in_ok-seen.seen.keys c.in_ok-lows.lows c.in_ok-seen.ensures.met c.in_ok-lows.ensures in
     let highs : IsMap mid rows c.args.root (Some c.args.high) c.in_ok-highs.highs =
     map-is rows c.laws.ensures told mid old c.in_ok-seen.ensures.grows c.requires.places c.args.root c.requires.root c.requires.place (Some c.args.high) c.in_ok-seen.seen.keys c.in_ok-highs.highs c.in_ok-seen.ensures.met c.in_ok-highs.ensures in
-    λ kind kinds. due-above (occurrences_by old rows (root_at c.args.root)) (counted (rows_of mid rows c.in_ok-lows.lows c.in_ok-highs.highs)) (pairs_by old rows c.args.root kind c.args.low c.args.high) c.in_err-rows.field-0
+    IfErr-on c.from_residual-in_err-rows.result c.in_err-rows.field-0.0 (IsDueAncestors old rows c.args.root c.args.low c.args.high)
+    c.from_residual-in_err-rows.ensures.1
+    (λ kind kinds. due-above (occurrences_by old rows (root_at c.args.root)) (counted (rows_of mid rows c.in_ok-lows.lows c.in_ok-highs.highs)) (pairs_by old rows c.args.root kind c.args.low c.args.high) c.in_err-rows.field-0.0
     c.in_ok-seen.ensures.met.within
     (pairs-are rows c.laws.ensures mid mid (λ i w e. e) (places-stay old mid c.in_ok-seen.ensures.grows rows c.requires.places) c.args.root c.args.low c.args.high c.in_ok-lows.lows c.in_ok-highs.highs lows highs
     old c.in_ok-seen.ensures.grows c.requires.places (c.requires.root, c.requires.place) kind kinds)
-    c.in_err-rows.ensures.refused
+    c.in_err-rows.ensures.refused)
 
 pub returns-in_err-rows-clause-grows : goal.returns-in_err-rows-clause-grows
 returns-in_err-rows-clause-grows c = λ i w e. c.in_err-rows.ensures.grows i w (c.in_ok-seen.ensures.grows i w e)
