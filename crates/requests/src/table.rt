@@ -3,7 +3,7 @@ ghost use Rattle.std.specs.Prelude.{◌≡◌, ◌≢◌, ◌<◌, ◌∷◌, �
 ghost use Rattle.orientation.specs.Rules.{usual};
 ghost use Rattle.requests.specs.declared.fault.AddFault.TheVariants.{KindMismatch, NoMemory};
 ghost use Rattle.requests.specs.Readings.{StandsForStep};
-ghost use Rattle.requests.specs.Numbered.{a_table, live_at, match_at, ActFits, IsHeldIn};
+ghost use Rattle.requests.specs.Numbered.{a_table, live_at, match_at, ActFits, IsHeldIn, Table};
 
 use crate::fault::AddFault;
 use crate::fit::fits;
@@ -62,6 +62,7 @@ impl RequestTable {
     pub fn add(&mut self, pool: &Pool, r: Request) -> Result<(), AddFault>
         requires { IsHeldIn pool.now r }
         ensures ok { OnOk result (self.new ≡ a_table (self.old.requests ++ r ∷ []) self.old.rule) }
+        ensures fit { OnOk result (ActFits pool.now r.source.0 r.act) }
         ensures fits { result ≢ Err NoMemory → (result ≡ Err KindMismatch) ↔ (¬ ActFits pool.now r.source.0 r.act) }
         ensures err { OnErr result (self.new ≡ self.old) }
     {
@@ -123,8 +124,16 @@ impl RequestTable {
     pub fn laws(&self, pool: &Pool)
         ensures { StandsForStep pool.now self.now }
     {
-        pool.laws();
-        equal_trees_tell();
-        test_tells();
+        tables_stand_for_steps(pool);
     }
+}
+
+/// What holds of every pool: the live requests and the edges of a table by numbers stand for those of a step among
+/// trees.
+pub fn tables_stand_for_steps(pool: &Pool)
+    ensures { (t : Table) → StandsForStep pool.now t }
+{
+    pool.laws();
+    equal_trees_tell();
+    test_tells();
 }

@@ -10,7 +10,7 @@ use Rattle.step_history.specs.declared.history.StepHistory.{StepHistory}
 use Rattle.step_history.specs.History.{IsSupported}
 use Rattle.step_history.specs.Numbered.{AreBelow, AreGone, ArePairsHeld, IsHeld, OccursAt, IsImageAt, IsGeneratedAt, IsGoneAt, IsStepAt}
 use Rattle.lists.specs.Gathering.{Gathers}
-use Rattle.step_history.specs.Gathering.{IsFirst, IsLost, IsReadOff}
+use Rattle.step_history.specs.Gathering.{IsFirst, IsLeftOut, IsLost, IsReadOff}
 use Rattle.step_history.proofs.GatherLaws.{named_by}
 
 -- what occurs below a held number is held
@@ -37,7 +37,7 @@ lost-gone rows before after input output firsts kept removed ins outs firsts_are
     there m =
         let h = (lost t).0 m in
         let e = h.2.0 in
-        let at = subst (λ i. IsSupported (kind_at rows i) × (Contains firsts i → ⊥) × (Contains output i → ⊥)) e (h.2.1, h.2.2, h.2.3) in (
+        let at = subst (IsLeftOut rows output firsts) e h.2.1 in (
           at.0,
           (ins t.0).0 (subst (λ i. Contains input i) e h.1),
           (λ s k. at.1 ((firsts_are t.0).1 ((t, s), k, refl))),
@@ -50,9 +50,11 @@ lost-gone rows before after input output firsts kept removed ins outs firsts_are
       (ins t.0).1 g.1,
       (
         refl,
-        g.0,
-        (λ k. let h = (firsts_are t.0).0 k in g.2 h.0.1 (subst (λ z. Contains kept (z, h.0.1)) (named_by h.0.0 t h.2) h.1)),
-        (λ o. g.3 ((outs t.0).0 o)),
+        (
+          g.0,
+          (λ k. let h = (firsts_are t.0).0 k in g.2 h.0.1 (subst (λ z. Contains kept (z, h.0.1)) (named_by h.0.0 t h.2) h.1)),
+          (λ o. g.3 ((outs t.0).0 o)),
+        ),
       ),
     )
 
