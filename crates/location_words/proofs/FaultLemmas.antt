@@ -8,10 +8,11 @@ use Rattle.std.proofs.lemmas.List.{length-append}
 use Rattle.std.proofs.lemmas.Option.{none-some}
 use Rattle.std.proofs.lemmas.List.Elements.{All-head, All-tail, All-nil, All-cons}
 use Rattle.location_words.specs.declared.pair.Pair.{Pair}
-use Rattle.location_words.specs.declared.fault.WordFault.TheVariants.{Pairs, Power}
+use Rattle.location_words.specs.declared.fault.WordFault.TheVariants.{Pairs, Power, NoMemory}
 use Rattle.location_words.specs.Pairs.{most_pairs, most_power, AllSmall}
 use Rattle.lists.proofs.Cases.{by_test}
-use Rattle.location_words.specs.Faults.{large_power, fault_of}
+use Rattle.location_words.specs.declared.fault.WordFault.{WordFault}
+use Rattle.location_words.specs.Faults.{large_power, fault_of, IsDueFault}
 use Rattle.location_words.specs.Laws.{LimitsTell}
 
 pub large-none : (l : List Pair) → AllSmall l → large_power l ≡ None
@@ -86,3 +87,9 @@ held-of_none l e =
 
 pub limits_tell : LimitsTell
 limits_tell l = (held-of_none l, λ is. fault-none l is.0 is.1)
+
+-- the fault that is due is answered as is due
+pub due-fault : (due : Option WordFault) (fault : WordFault) → due ≡ Some fault → IsDueFault due fault
+due-fault due (Pairs n) e = e
+due-fault due (Power n) e = e
+due-fault due NoMemory e = tt

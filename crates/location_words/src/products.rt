@@ -38,14 +38,14 @@ pub fn mul(outer: &Word, inner: &Word) -> Result<Word, WordFault>
 /// How two words meet: the first pairs of the one that stay, the pair that their meeting ones make, if any, and how
 /// many of the other's first pairs go.
 #[derive(Clone, Copy)]
-struct Seam {
-    kept: usize,
-    joined: Option<Pair>,
-    dropped: usize,
+pub(crate) struct Seam {
+    pub(crate) kept: usize,
+    pub(crate) joined: Option<Pair>,
+    pub(crate) dropped: usize,
 }
 
 /// How an inner word meets an outer one.
-fn seam_of(inner: &[Pair], outer: &[Pair]) -> Seam
+pub(crate) fn seam_of(inner: &[Pair], outer: &[Pair]) -> Seam
     requires inner { IsHeldWord inner.now }
     requires outer { IsHeldWord outer.now }
     ensures kept { result.kept ≤ length inner.now }
@@ -112,16 +112,32 @@ fn joined(
     ensures refused { IfErr result (λ fault. IsDueFault (fault_of (in_three kept.now middle rest.now)) fault) }
     ensures inline { count_of_three (length kept.now) middle (length rest.now) ≤ 4 → result ≢ Err WordFault.NoMemory }
 {
-    let count = kept.len() + usize::from(middle.is_some()) + rest.len();
-    if count > MOST_PAIRS {
-        return Err(WordFault::Pairs(count as u128));
-    }
-    if let Some(size) = large_size(middle) {
-        return Err(WordFault::Power(size));
+    if let Some(fault) = fault_of_parts(kept, middle, rest) {
+        return Err(fault);
     }
     match copied(alloc, kept, middle, rest) {
         Ok(pairs) => Ok(Word { pairs }),
         Err(_) => Err(WordFault::NoMemory),
+    }
+}
+
+/// Why three parts, one after another, are no word, if they aren't within the limits.
+pub(crate) fn fault_of_parts(
+    kept: &[Pair],
+    middle: Option<Pair>,
+    rest: &[Pair],
+) -> Option<WordFault>
+    requires few { (length kept.now ≤ 4096) × (length rest.now ≤ 4096) }
+    requires small { AllSmall kept.now × AllSmall rest.now }
+    ensures { result ≡ fault_of (in_three kept.now middle rest.now) }
+{
+    let count = kept.len() + usize::from(middle.is_some()) + rest.len();
+    if count > MOST_PAIRS {
+        return Some(WordFault::Pairs(count as u128));
+    }
+    match large_size(middle) {
+        Some(size) => Some(WordFault::Power(size)),
+        None => None,
     }
 }
 

@@ -1,5 +1,5 @@
 //! The table that gives words their numbers.
-ghost use Rattle.std.specs.Prelude.{◌≡◌, ◌≢◌, ◌<◌, ℕ, List, [], ◌∷◌, Some, Contains};
+ghost use Rattle.std.specs.Prelude.{◌≡◌, ◌≢◌, ◌<◌, ◌^◌, ℕ, List, [], ◌∷◌, Some, Contains};
 ghost use Rattle.std.specs.Prelude.{length, slice_get, IfNone, IfOk, IfSome, IsOk, OnErr, OnOk};
 ghost use Rattle.location_words.specs.declared.pair.Pair.{Pair};
 ghost use Rattle.location_words.specs.Pairs.{IsHeldWord};
@@ -83,8 +83,9 @@ impl Words {
     /// How many words the table holds, the identity among them.
     pub fn len(&self) -> usize
         ensures len { result ≡ length self.now }
+        ensures small { result < 2 ^ 57 }
         ensures table { IsTable self.now }
     {
-        self.words.len()
+        self.words.as_slice().len()
     }
 }
