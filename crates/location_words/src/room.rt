@@ -16,6 +16,7 @@ pub fn mul_into(outer: &[Pair], inner: &Word, room: &mut Vec<Pair>) -> Result<()
     ensures ok { OnOk result (room.new.items ≡ mul_of outer.now inner.now) }
     ensures within { OnOk result (fault_of (mul_of outer.now inner.now) ≡ None) }
     ensures held { OnOk result (IsHeldWord room.new.items) }
+    ensures len { OnOk result (length room.new.items ≤ length outer.now + length inner.now) }
     ensures refused { IfErr result (λ fault. fault_of (mul_of outer.now inner.now) ≡ Some fault) }
     ensures err { OnErr result (room.new.items ≡ room.old.items) }
     ensures capacity { vec_capacity room.old ≤ vec_capacity room.new }
