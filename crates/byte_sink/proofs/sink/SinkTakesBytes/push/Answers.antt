@@ -1,0 +1,5 @@
+use Rattle.byte_sink.specs.HandingLaws.{stopped_takes_no_more}
+use Rattle.byte_sink.proofs.sink.SinkTakesBytes.push.Goals as goal
+
+pub returns-in-Some : goal.returns-in-Some
+returns-in-Some g c = stopped_takes_no_more _ _ _ _ c.in-Some.is

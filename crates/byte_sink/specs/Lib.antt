@@ -1,0 +1,5 @@
+pub mod Sending
+pub mod Handing
+pub mod Laws
+pub mod SendingLaws
+pub mod HandingLaws
