@@ -1,5 +1,5 @@
 -- What takes bytes piece by piece, and what is left of it.
-use Rattle.std.specs.Prelude.{◌≡◌, ℕ, false, List, [], ◌++◌, Option, Some, None, Result, Ok, Err}
+use Rattle.std.specs.Prelude.{◌≡◌, ◌≤◌, ℕ, false, List, [], ◌++◌, Option, Some, None, Result, IfOk, IfErr}
 use Rattle.std.specs.Borrow.{GName}
 use Rattle.brep_desk.specs.Causes.{Rose}
 use Rattle.brep_desk.specs.Shown.{Shown, Tells}
@@ -67,6 +67,7 @@ pub record GoesOn (t : Tells) (a b : Standing) (x : List ℕ) : Type 0 where
 
 -- A call of the desk failed: of the bytes that waited and of these the channel took the first ones.
 pub record StopsAt (t : Tells) (a b : Standing) (x : List ℕ) (stop : WriteStop) : Type 0 where
+  pub later : a.faults ≤ b.faults
   pub faults : Rose a.faults b.faults
   pub stopped : Stopped t a.shown b.shown a.channel a.waiting x stop.taken
 
@@ -87,6 +88,7 @@ abbrev pub GivesSink : {D : Type 0} → Tells → (D → Shown) → (D → ℕ) 
 GivesSink t shows faults a x b = Handed t (standing shows faults a) (standing shows faults b) x
 
 -- All that waited was taken, so many bytes in all; or a call of the desk has failed, now or before.
-abbrev pub Ends : Tells → Standing → Standing → Result ℕ WriteStop → Type 0
-Ends t a b (Ok n) = Handed t a b [] × (b.stop ≡ None) × (b.waiting ≡ nothing_waits n)
-Ends t a b (Err e) = Handed t a b [] × (b.stop ≡ Some e)
+pub record Ends (t : Tells) (a b : Standing) (result : Result ℕ WriteStop) : Type 0 where
+  pub handed : Handed t a b []
+  pub taken : IfOk result (λ n. (b.stop ≡ None) × (b.waiting ≡ nothing_waits n))
+  pub stopped : IfErr result (λ e. b.stop ≡ Some e)

@@ -1,5 +1,5 @@
 -- What takes bytes takes texts.
-use Rattle.std.proofs.Common.{◌≡◌, ℕ, ◌<◌, List, [], ◌++◌, length, Option, Some, None, refl, sym, ap, subst}
+use Rattle.std.proofs.Common.{◌≡◌, ℕ, ◌<◌, ◌≤◌, arith, List, [], ◌++◌, length, Option, Some, None, Ok, Err, refl, sym, ap, subst}
 use Rattle.std.proofs.Common.{◌∙◌, append_assoc, true≢false}
 use Rattle.std.proofs.lemmas.List.{append-nil}
 use Rattle.std.specs.Prelude.{Bool, false, IsTrue}
@@ -9,7 +9,7 @@ use Rattle.brep_desk.specs.declared.transfers.WriteStop.{WriteStop}
 use Rattle.byte_sink.specs.Sending.{Waiting, nothing_waits, Sent, Stopped}
 use Rattle.byte_sink.specs.Handing.{TextsJoin, GivesText, Standing, standing, Begins, GoesOn, StopsAt, HandedBy}
 use Rattle.byte_sink.specs.Handing.{Handed, GivesSink}
-use Rattle.byte_sink.specs.Laws.{WentWhole, WentInPart, TextsGoOut}
+use Rattle.byte_sink.specs.Laws.{WentOut, TextsGoOut}
 use Rattle.byte_sink.specs.declared.text.TextBytes.{TextBytes}
 use Rattle.byte_sink.specs.SendingLaws.{Sent-waiting, Sent-then, Stopped-then, Stopped-more, all_gone}
 use Rattle.byte_sink.specs.SendingLaws.{texts-are-whole}
@@ -45,6 +45,7 @@ goes_on_then t a b d x y same one two = record {
 stops_then : (t : Tells) (a b d : Standing) (x y : List ℕ) (e : WriteStop) → b.channel ≡ a.channel → GoesOn t a b x
     → StopsAt t b d y e → StopsAt t a d (x ++ y) e
 stops_then t a b d x y e same one two = record {
+  later = subst (λ (n : ℕ). n ≤ d.faults) one.faults two.later;
   faults = subst (λ (n : ℕ). Rose n d.faults) one.faults two.faults;
   stopped =
       Stopped-then t a.shown b.shown d.shown a.channel a.waiting b.waiting x y e.taken one.sent
@@ -54,6 +55,7 @@ stops_then t a b d x y e same one two = record {
 stops_more : (t : Tells) (a b : Standing) (x y : List ℕ) (e : WriteStop) → StopsAt t a b x e
     → StopsAt t a b (x ++ y) e
 stops_more t a b x y e s = record {
+  later = s.later;
   faults = s.faults;
   stopped = Stopped-more t a.shown b.shown a.channel a.waiting x y e.taken s.stopped;
 }
@@ -148,25 +150,33 @@ stopped_over t a d old faults c taken z text begins is s =
     (subst (λ (v : List ℕ). Stopped t a.shown d.shown a.channel a.waiting v taken) is s)))
 
 went_whole : (t : Tells) (old : Shown) (faults c : ℕ) (text : List ℕ) (d : Standing) (n : ℕ) → d.faults ≡ faults
-    → Sent t old d.shown c (nothing_waits 0) (nothing_waits n) text → WentWhole t old faults c text d n
+    → Sent t old d.shown c (nothing_waits 0) (nothing_waits n) text → WentOut t old faults c text d (Ok n)
 went_whole t old faults c text d n same s = record {
-  appended = texts-are-whole.appended t old d.shown c text n s;
+  later = omega (arith, same);
+  cause = tt;
+  no_fault = same;
+  whole = texts-are-whole.appended t old d.shown c text n s;
   told = texts-are-whole.told t old d.shown c text n s;
-  faults = same;
+  part = tt;
   strays = s.strays;
-  writing_calls = s.writing_calls;
+  no_fewer_calls = s.writing_calls;
   calls =
       λ some. s.calls (subst (λ (z : List ℕ). 0 < length z) (sym (all_gone t old d.shown c text n s)) some);
 }
 
-went_in_part : (t : Tells) (old : Shown) (faults c : ℕ) (text : List ℕ) (d : Standing) (taken : ℕ)
-    → Rose faults d.faults → Stopped t old d.shown c (nothing_waits 0) text taken
-    → WentInPart t old faults c text d taken
-went_in_part t old faults c text d taken rose s = record {
-  appended = texts-are-whole.stopped t old d.shown c text taken s;
-  faults = rose;
+went_in_part : (t : Tells) (old : Shown) (faults c : ℕ) (text : List ℕ) (d : Standing) (stop : WriteStop)
+    → faults ≤ d.faults → Rose faults d.faults → Stopped t old d.shown c (nothing_waits 0) text stop.taken
+    → WentOut t old faults c text d (Err stop)
+went_in_part t old faults c text d stop later rose s = record {
+  later = later;
+  cause = rose;
+  no_fault = tt;
+  whole = tt;
+  told = tt;
+  part = texts-are-whole.stopped t old d.shown c text stop.taken s;
   strays = s.strays;
-  calls = s.calls;
+  no_fewer_calls = tt;
+  calls = λ _. s.calls;
 }
 
 -- by whether it had stopped, over the whole text
@@ -177,17 +187,16 @@ by_stops t a d z p q was is h =
     (subst (λ (v : Option WriteStop). HandedBy t a d z v d.stop) was h.handed)
 
 pub texts-go-out : TextsGoOut
-texts-go-out = record {
-  whole = λ t old faults c a b d text n begins given ends.
-      let all : Handed t a d (text ++ []) = Handed-then t a b d text [] given ends.0 in
-      let on : GoesOn t a d (text ++ []) = by_stops t a d (text ++ []) None None begins.stop ends.1 all in
-      went_whole t old faults c text d n (on.faults ∙ begins.faults)
-      (sent_over t a d old faults c (nothing_waits n) (text ++ []) text begins ends.2 (append-nil text) on.sent);
-  in_part = λ t old faults c a b d text stop begins given ends.
-      let all : Handed t a d (text ++ []) = Handed-then t a b d text [] given ends.0 in
-      let at : StopsAt t a d (text ++ []) stop =
-      by_stops t a d (text ++ []) None (Some stop) begins.stop ends.1 all in
-      went_in_part t old faults c text d stop.taken
-      (subst (λ (n : ℕ). Rose n d.faults) begins.faults at.faults)
-      (stopped_over t a d old faults c stop.taken (text ++ []) text begins (append-nil text) at.stopped);
-}
+texts-go-out t old faults c a b d text (Ok n) begins given ends =
+    let all : Handed t a d (text ++ []) = Handed-then t a b d text [] given ends.handed in
+    let on : GoesOn t a d (text ++ []) = by_stops t a d (text ++ []) None None begins.stop ends.taken.0 all in
+    went_whole t old faults c text d n (on.faults ∙ begins.faults)
+    (sent_over t a d old faults c (nothing_waits n) (text ++ []) text begins ends.taken.1 (append-nil text) on.sent)
+texts-go-out t old faults c a b d text (Err stop) begins given ends =
+    let all : Handed t a d (text ++ []) = Handed-then t a b d text [] given ends.handed in
+    let at : StopsAt t a d (text ++ []) stop =
+    by_stops t a d (text ++ []) None (Some stop) begins.stop ends.stopped all in
+    went_in_part t old faults c text d stop
+    (subst (λ (n : ℕ). n ≤ d.faults) begins.faults at.later)
+    (subst (λ (n : ℕ). Rose n d.faults) begins.faults at.faults)
+    (stopped_over t a d old faults c stop.taken (text ++ []) text begins (append-nil text) at.stopped)

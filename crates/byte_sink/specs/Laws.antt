@@ -1,5 +1,5 @@
 -- The laws of bytes that are handed in.
-use Rattle.std.specs.Prelude.{◌≡◌, ℕ, ◌<◌, List, [], ◌++◌, length, Ok, Err}
+use Rattle.std.specs.Prelude.{◌≡◌, ℕ, ◌<◌, ◌≤◌, List, [], ◌++◌, length, Result, OnErr, OnOk, IfErr, IfOk}
 use Rattle.brep_desk.specs.Causes.{Rose}
 use Rattle.brep_desk.specs.Shown.{Shown, Tells}
 use Rattle.brep_desk.specs.Strays.{NoStrayOnWriting}
@@ -35,26 +35,21 @@ pub record TextsAreWhole : Type 0 where
   pub stopped : (t : Tells) (a b : Shown) (c : ℕ) (text : List ℕ) (taken : ℕ)
       → Stopped t a b c (nothing_waits 0) text taken → AppendedPart t a b c text taken
 
--- A text went out whole over a channel, and it is told how many bytes.
-pub record WentWhole (t : Tells) (old : Shown) (before c : ℕ) (text : List ℕ) (b : Standing) (taken : ℕ) : Type 0 where
-  pub appended : AppendedAll t old b.shown c text
-  pub told : taken ≡ counted_on 0 (length text)
-  pub faults : b.faults ≡ before
+-- A text went out over a channel: all of it, which is told, or a part before a call of the desk failed.
+pub record WentOut (t : Tells) (old : Shown) (before c : ℕ) (text : List ℕ) (b : Standing) (result : Result ℕ WriteStop)
+    : Type 0 where
+  pub later : before ≤ b.faults
+  pub cause : OnErr result (Rose before b.faults)
+  pub no_fault : OnOk result (b.faults ≡ before)
+  pub whole : OnOk result (AppendedAll t old b.shown c text)
+  pub told : IfOk result (λ n. n ≡ counted_on 0 (length text))
+  pub part : IfErr result (λ e. AppendedPart t old b.shown c text e.taken)
   pub strays : NoStrayOnWriting t old b.shown c
-  pub writing_calls : NoFewerWritingCalls t old b.shown
+  pub no_fewer_calls : OnOk result (NoFewerWritingCalls t old b.shown)
   pub calls : 0 < length text → RoseWritingCalls t old b.shown
 
--- A part of a text went out over a channel before a call of the desk failed.
-pub record WentInPart (t : Tells) (old : Shown) (before c : ℕ) (text : List ℕ) (b : Standing) (taken : ℕ) : Type 0 where
-  pub appended : AppendedPart t old b.shown c text taken
-  pub faults : Rose before b.faults
-  pub strays : NoStrayOnWriting t old b.shown c
-  pub calls : RoseWritingCalls t old b.shown
-
 -- A text that is handed in from the beginning, up to the end, has gone out whole or in part.
-pub record TextsGoOut : Type 0 where
-  pub whole : (t : Tells) (old : Shown) (faults c : ℕ) (a b d : Standing) (text : List ℕ) (taken : ℕ)
-      → Begins old faults c a → Handed t a b text → Ends t b d (Ok taken) → WentWhole t old faults c text d taken
-  pub in_part : (t : Tells) (old : Shown) (faults c : ℕ) (a b d : Standing) (text : List ℕ) (stop : WriteStop)
-      → Begins old faults c a → Handed t a b text → Ends t b d (Err stop)
-      → WentInPart t old faults c text d stop.taken
+abbrev pub TextsGoOut : Type 0
+TextsGoOut =
+    (t : Tells) (old : Shown) (before c : ℕ) (a b d : Standing) (text : List ℕ) (result : Result ℕ WriteStop)
+    → Begins old before c a → Handed t a b text → Ends t b d result → WentOut t old before c text d result

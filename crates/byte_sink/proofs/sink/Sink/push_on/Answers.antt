@@ -10,4 +10,4 @@ returns-in-Ok g c =
 pub returns-in-Err : goal.returns-in-Err
 returns-in-Err g c =
     Handed-stop _ _ _ _ _ c.requires refl refl refl
-    (record { faults = c.in-Err.ensures.cause; stopped = c.in-Err.ensures.sends })
+    (record { later = c.in-Err.ensures.later; faults = c.in-Err.ensures.cause; stopped = c.in-Err.ensures.sends })
