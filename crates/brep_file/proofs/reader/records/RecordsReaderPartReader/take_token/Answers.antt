@@ -14,7 +14,7 @@ new-requires-clause-few c =
     let few : HasFewReps c.args.self.now.so_far.reps c.done-head.result.0 =
     c.done-head.ensures.reps c.args.self.now.so_far.uses c.args.self.now.so_far.reps took.1 in
     let reps : c.push.new.self.reps ≡ c.args.self.now.so_far.reps + rep_count c.done-head.result.0.payload =
-    ap (λ z. z.reps) c.in_ok-push.ensures in
+    ap (λ z. z.reps) c.in_ok-push-in-Whole.ensures in
     omega (arith, few, reps)
 
 pub returns-else-self-eq0 : goal.returns-else-self-eq0
@@ -33,14 +33,14 @@ returns-else-self-eq0 c =
     c.done-head.ensures.few c.args.self.now.so_far.uses c.args.self.now.so_far.reps took.1 in
     let few_reps : HasFewReps c.args.self.now.so_far.reps head =
     c.done-head.ensures.reps c.args.self.now.so_far.uses c.args.self.now.so_far.reps took.1 in
-    let seen : length longer.seen ≡ length s.seen + 1 = ap (λ z. length z.seen) c.in_ok-push.ensures
+    let seen : length longer.seen ≡ length s.seen + 1 = ap (λ z. length z.seen) c.in_ok-push-in-Whole.ensures
     ∙ length-append s.seen _ in
-    let uses : longer.uses ≡ s.uses + length made.uses = ap (λ z. z.uses) c.in_ok-push.ensures in
-    let reps : longer.reps ≡ s.reps + rep_count head.payload = ap (λ z. z.reps) c.in_ok-push.ensures in
+    let uses : longer.uses ≡ s.uses + length made.uses = ap (λ z. z.uses) c.in_ok-push-in-Whole.ensures in
+    let reps : longer.reps ≡ s.reps + rep_count head.payload = ap (λ z. z.reps) c.in_ok-push-in-Whole.ensures in
     let within : longer.uses ≤ most_uses = omega (arith, uses, few.within) in (
       λ rest. fresh (record_at b) (record_left b longer c.new.result) longer (c.args.self.now.due - 1) due
           (λ ts. c.new.ensures.left longer ts refl) rest
-          ∙ ap (λ z. many_from (record_at b) z (c.args.self.now.due - 1) rest) c.in_ok-push.ensures
+          ∙ ap (λ z. many_from (record_at b) z (c.args.self.now.due - 1) rest) c.in_ok-push-in-Whole.ensures
           ∙ sym (moved (record_at b) (record_left b s c.args.self.now.reader) s c.args.self.now.due c.requires.due
           (with_record s head made) (c.args.t.now ∷ rest) rest (read rest)),
       fresh_open (record_at b) (record_left b longer c.new.result) longer (c.args.self.now.due - 1) due
