@@ -140,6 +140,11 @@ spaced : (x : List ℕ) (xs : List (List ℕ)) → join_with_byte 32 (x ∷ xs) 
 spaced x [] = sym (append-nil x)
 spaced x (y ∷ ys) = ap (λ t. x ++ 32 ∷ t) (spaced y ys)
 
+-- the first word, the others each after a space, and the end of the line
+pub spaced_line : (x : List ℕ) (xs : List (List ℕ))
+    → line_text (x ∷ xs) ≡ (x ++ flat_map (λ (t : List ℕ). 32 ∷ t) xs) ++ 10 ∷ []
+spaced_line x xs = ap (λ t. t ++ 10 ∷ []) (spaced x xs)
+
 pairs-spaced : (w : List Pair)
     → flat_map (λ (t : List ℕ). 32 ∷ t) (flat_map spell_factor (map (λ (p : Pair). factor p.datum p.power) w))
     ≡ flat_map pair_text w

@@ -6,14 +6,15 @@ ghost use Rattle.curve_tables.specs.Shapes.{CanSpell2, CanSpell3};
 ghost use Rattle.curve_tables.specs.Spelling.{spelling2, spelling3};
 ghost use Rattle.mesh_tables.specs.Sound.{CanSpellMesh, CanSpellPolygon, CanSpellPolygonOn};
 ghost use Rattle.mesh_tables.specs.Spelling.{spell_mesh, spell_polygon, spell_polygon_on};
+ghost use Rattle.std.specs.Fmt.{decimal};
 ghost use Rattle.std.specs.Iterator.{Drains, IsFinite};
 ghost use Rattle.surface_tables.specs.Shapes.{CanSpellSurface};
 ghost use Rattle.surface_tables.specs.Spelling.{spell_surface};
 ghost use Rattle.std.specs.Prelude.{◌≡◌, ◌∷◌, ◌++◌, ℕ, All, List, OnOk, if◌then◌else◌};
 
-use super::lines::push_heading;
+use super::lines::{push_heading, push_number};
 use brep_file::File;
-use brep_tokens::TokenText;
+use brep_tokens::{Decimals, TokenText};
 use curve_tables::laws::curves_are_exact;
 use curve_tables::{Curve2, Curve3};
 use location_table::LocationEntry;
@@ -48,6 +49,16 @@ fn push_line<I: Iterator<Item = TokenText> + Drop>(
         push_token(text, &token, first)?;
         first = false;
     }
+    text.push(b'\n')?;
+    Ok(())
+}
+
+/// A number and the decimals behind it, on a line.
+fn push_numbered(text: &mut Vec<u8>, number: u8, decimals: &Decimals) -> Result<(), AllocError>
+    ensures { OnOk result (text.new.items ≡ text.old.items ++ line_text (decimal number ∷ decimals.now)) }
+{
+    push_number(text, number as usize)?;
+    text.extend_from_slice(decimals.spaced())?;
     text.push(b'\n')?;
     Ok(())
 }
@@ -88,7 +99,10 @@ impl TableEntry for Curve2 {
     ghost can_spell = { CanSpell2 };
 
     fn push_to(&self, text: &mut Vec<u8>) -> Result<(), AllocError> {
-        push_line(text, self.spell())
+        match self {
+            Curve2::Plain { code, texts } => push_numbered(text, *code, texts),
+            _ => push_line(text, self.spell()),
+        }
     }
 }
 
@@ -101,7 +115,10 @@ impl TableEntry for Curve3 {
     ghost can_spell = { CanSpell3 };
 
     fn push_to(&self, text: &mut Vec<u8>) -> Result<(), AllocError> {
-        push_line(text, self.spell())
+        match self {
+            Curve3::Plain { code, texts } => push_numbered(text, *code, texts),
+            _ => push_line(text, self.spell()),
+        }
     }
 }
 
@@ -140,7 +157,10 @@ impl TableEntry for Surface {
     ghost can_spell = { CanSpellSurface };
 
     fn push_to(&self, text: &mut Vec<u8>) -> Result<(), AllocError> {
-        push_line(text, self.spell())
+        match self {
+            Surface::Plain { code, texts } => push_numbered(text, *code, texts),
+            _ => push_line(text, self.spell()),
+        }
     }
 }
 

@@ -5,8 +5,8 @@ use Rattle.curve_tables.specs.SpellLeft.{tokens_left3}
 use Rattle.brep_run.proofs.LocationLoops.{drains-first}
 use Rattle.brep_run.proofs.writer.tables.Curve3TableEntry.push_to.Goals as goal
 
-pub returns : goal.returns
-returns c =
+pub returns-in_default : goal.returns-in_default
+returns-in_default c =
     on_ok_weaker c.push_line.result
     (λ h. h.2 ∙ ap (λ w. c.args.text.now.items ++ line_text w)
     (sym (drains-first tokens_left3 c.spell.result h.0 h.1) ∙ c.spell.ensures.left)) c.push_line.ensures
