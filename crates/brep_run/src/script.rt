@@ -77,10 +77,7 @@ fn commands_of(
     let mut at = 0u64;
     'lines: while let Some(bytes) = lines.next() {
         at += 1;
-        match take_line(alloc, &mut taken, at, bytes, shapes, locations) {
-            Ok(()) => {}
-            Err(stop) => return Err(stop),
-        }
+        take_line(alloc, &mut taken, at, bytes, shapes, locations)?;
     }
     Ok(taken)
 }
