@@ -1,0 +1,2 @@
+mod GraphLemmas
+mod RecordLemmas

@@ -1,0 +1,9 @@
+-- All records name records above them.
+use Rattle.std.proofs.Common.{arith}
+use Rattle.rule_rows.proofs.RecordLemmas.{names-told}
+use Rattle.rule_rows.proofs.expansions.names_above.Goals as goal
+
+pub returns : goal.returns
+returns c =
+    let past = c.loop-i-test.false in
+    λ _. names-told c.args.records.now (λ j d lt. c.loop-i.invariant j d (omega (arith, lt, past)))

@@ -1,0 +1,11 @@
+-- The records so far name records above them.
+use Rattle.std.proofs.Common.{◌<◌, ◌-◌, ℕ, length}
+use Rattle.std.specs.Prelude.{All, slice_index_or}
+use Rattle.expansion_laws.specs.declared.records.PlainRecord.{PlainRecord}
+use Rattle.rule_rows.proofs.RecordLemmas.{IsAboveOwn}
+use Rattle.rule_rows.proofs.expansions.names_above.Given as goal
+
+abbrev pub invariant-loop-i : goal.invariant-loop-i
+invariant-loop-i l =
+    (j : ℕ) (d : PlainRecord) → j < l.i →
+    All (IsAboveOwn (length l.records) (length l.records - j)) (slice_index_or l.records j d).uses
