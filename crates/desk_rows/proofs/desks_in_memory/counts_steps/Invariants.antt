@@ -1,4 +1,0 @@
-use Rattle.desk_rows.proofs.desks_in_memory.counts_steps.Given as goal
-
-abbrev pub ghosts-two_steps : goal.ghosts-two_steps
-ghosts-two_steps a = record { name = a.blank.name; parts = a.blank.parts }
