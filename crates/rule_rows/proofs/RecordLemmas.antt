@@ -61,4 +61,5 @@ module _ (records : List PlainRecord)
     names-told =
         let long : length (reverse (rows records)) ≡ length records =
         length-reverse (rows records) ∙ length-map records row_of in
-        names-from (length records) 1 (reverse (rows records)) (omega (arith, long)) (λ i lt. named i (omega (arith, lt, long)))
+        names-from (length records) 1 (reverse (rows records)) (omega (arith, long))
+        (λ i lt. named i (omega (arith, lt, long)))

@@ -3,7 +3,7 @@ ghost use Rattle.std.specs.Prelude.{◌≡◌, ◌<◌, ◌≤◌, All, IsTrue, 
 ghost use Rattle.expansion_laws.specs.Expansion.{IsNumberOf, NamesAbove};
 ghost use Rattle.expansion_laws.specs.PlainFile.{rows};
 
-use crate::reading::{Missed, cut, cut_if, kind, number, small};
+use crate::reading::{Missed, cut, cut_if, digits, kind, number, small};
 use crate::rewriting::outcome;
 use crate::tree_text::without_sign;
 use crate::word_text::place;
@@ -12,17 +12,6 @@ use location_words::Word;
 use orientation::{Kind, Turn};
 use std::alloc::Global;
 
-/// The number of digits that are one.
-fn named(digits: &[u8]) -> Result<u32, Missed> {
-    let Some(number) = brep_tokens::number(digits) else {
-        return Err(Missed::Unclear);
-    };
-    match u32::try_from(number) {
-        Ok(number) => Ok(number),
-        Err(_) => Err(Missed::Unclear),
-    }
-}
-
 /// The use `-2@3^1`: reversed, of the record 2, at the datum 3.
 fn plain_use(alloc: Global, text: &str) -> Result<PlainUse, Missed> {
     let (front, back) = cut_if(text, "@");
@@ -30,11 +19,11 @@ fn plain_use(alloc: Global, text: &str) -> Result<PlainUse, Missed> {
         Some(text) => place(alloc, text)?,
         None => Word::identity(alloc),
     };
-    let (turn, digits) = without_sign(front.as_bytes());
+    let (turn, name) = without_sign(front.as_bytes());
     Ok(PlainUse {
         turn: turn.unwrap_or(Turn::Forward),
         word,
-        number: named(digits)?,
+        number: digits(name)?,
     })
 }
 

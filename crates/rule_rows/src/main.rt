@@ -1,4 +1,4 @@
-//! Answers rows about turns, kinds, words, graphs, trees, rewriting and desks: a row a line, and each answered on a line.
+//! Answers rows about turns, kinds, words, graphs, trees, rewriting and desks, a line each.
 #![tactic(auto)]
 
 mod desk_answers;
@@ -7,6 +7,7 @@ mod expansions;
 mod graphs;
 mod reading;
 mod rewriting;
+mod tree_said;
 mod tree_text;
 mod turns;
 mod word_text;

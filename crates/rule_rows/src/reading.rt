@@ -45,12 +45,20 @@ pub(crate) fn number(text: &str) -> Result<u64, Missed> {
     }
 }
 
-/// A number of 32 bits.
-pub(crate) fn small(text: &str) -> Result<u32, Missed> {
-    match u32::try_from(number(text)?) {
+/// A number of 32 bits, by its digits.
+pub(crate) fn digits(text: &[u8]) -> Result<u32, Missed> {
+    let Some(number) = brep_tokens::number(text) else {
+        return Err(Missed::Unclear);
+    };
+    match u32::try_from(number) {
         Ok(n) => Ok(n),
         Err(_) => Err(Missed::Unclear),
     }
+}
+
+/// A number of 32 bits.
+pub(crate) fn small(text: &str) -> Result<u32, Missed> {
+    digits(text.as_bytes())
 }
 
 /// A number, or one after `-`.

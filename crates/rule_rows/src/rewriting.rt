@@ -1,6 +1,7 @@
 //! Rows of trees: whether two are one, and what a step makes of a root.
 use crate::reading::{Missed, cut, cut_if, kind, number, said, yes};
-use crate::tree_text::{Kinds, tree, tree_said, turn_at};
+use crate::tree_said::tree_said;
+use crate::tree_text::{Kinds, tree, turn_at};
 use crate::word_text::{fault_said, place};
 use expansion_laws::{ExpandFault, SlowRequest, TreeUse, rewrite_slow, same_tree};
 use orientation::{Kind, Rule};
@@ -88,8 +89,8 @@ pub(crate) fn outcome(
     }
 }
 
-/// `ROOT ; PART ; ..`, where a part is `remove SOURCE`, `replace SOURCE by TARGET`, `until KIND`, `prune` or `visits N`;
-/// there are at most 200 visits where the row has no number.
+/// `ROOT ; PART ; ..`, where a part is `remove SOURCE`, `replace SOURCE by TARGET`, `until KIND`, `prune` or
+/// `visits N`. There are at most 200 visits where the row has no number.
 pub(crate) fn of_rewrite(alloc: Global, row: &str) -> Result<String, Missed> {
     let (first, parts) = cut_if(row, " ; ");
     let mut told = Told {

@@ -1,10 +1,9 @@
 //! How trees stand in rows: `-2Ed@3^1(7Ve -8Ve)` is a reversed use, at the datum 3, of the edge 2 over its uses.
-use crate::reading::{Missed, cut_if, join, kind, small};
-use crate::turns::push_kind;
-use crate::word_text::{pairs_said, place};
+use crate::reading::{Missed, cut_if, digits, kind};
+use crate::word_text::place;
 use expansion_laws::{Tree, TreeUse};
 use location_words::Word;
-use orientation::{Kind, Turn, of_sign, sign};
+use orientation::{Kind, Turn, of_sign};
 use std::alloc::Global;
 use std::mem;
 
@@ -87,13 +86,8 @@ fn origin(text: &[u8], kinds: &mut Kinds) -> Result<u32, Missed> {
     if text.len() < 2 {
         return Err(Missed::Unclear);
     }
-    let (digits, name) = text.split_at(text.len() - 2);
-    let Some(number) = brep_tokens::number(digits) else {
-        return Err(Missed::Unclear);
-    };
-    let Ok(origin) = u32::try_from(number) else {
-        return Err(Missed::Unclear);
-    };
+    let (number, name) = text.split_at(text.len() - 2);
+    let origin = digits(number)?;
     kinds.note(origin, kind(name)?)?;
     Ok(origin)
 }
@@ -223,55 +217,4 @@ pub(crate) fn tree(alloc: Global, text: &str, kinds: &mut Kinds) -> Result<TreeU
         Some(one) => Ok(one),
         None => Err(Missed::Unclear),
     }
-}
-
-/// The kind of an origin.
-fn kind_of(kinds: &[Kind], origin: u32) -> Kind {
-    if origin == 0 {
-        return Kind::Co;
-    }
-    match kinds.get(origin as usize - 1) {
-        Some(kind) => *kind,
-        None => Kind::Co,
-    }
-}
-
-/// The label of a use; a forward turn has no sign, and the identity no place.
-fn label_said(alloc: Global, kinds: &[Kind], one: &TreeUse) -> Result<String, Missed> {
-    let mut text = String::new(alloc);
-    if one.turn != Turn::Forward {
-        text.push(char::from(sign(one.turn)))?;
-    }
-    let origin = one.tree.origin;
-    text.push_str(format!(in alloc; "{origin}")?.as_str())?;
-    push_kind(&mut text, kind_of(kinds, origin))?;
-    if !one.word.pairs().is_empty() {
-        text.push('@')?;
-        text.push_str(pairs_said(alloc, &one.word, ".")?.as_str())?;
-    }
-    Ok(text)
-}
-
-/// A use with all that stands below it.
-#[cycle(said)]
-pub(crate) fn tree_said(alloc: Global, kinds: &[Kind], one: &TreeUse) -> Result<String, Missed> {
-    let mut text = label_said(alloc, kinds, one)?;
-    if !one.tree.uses.is_empty() {
-        let below = uses_said(alloc, kinds, &one.tree.uses)?;
-        text.push('(')?;
-        text.push_str(below.as_str())?;
-        text.push(')')?;
-    }
-    Ok(text)
-}
-
-/// Uses with spaces between them.
-#[cycle(said)]
-fn uses_said(alloc: Global, kinds: &[Kind], uses: &[TreeUse]) -> Result<String, Missed> {
-    let mut text = String::new(alloc);
-    for i in 0..uses.len() {
-        let one = tree_said(alloc, kinds, &uses[i])?;
-        join(&mut text, " ", one.as_str())?;
-    }
-    Ok(text)
 }
