@@ -1,0 +1,3 @@
+mod Around2
+mod Around3
+mod AroundSurface
