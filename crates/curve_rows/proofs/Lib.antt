@@ -1,2 +1,0 @@
-mod Around2
-mod Around3

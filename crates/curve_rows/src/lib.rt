@@ -1,5 +1,0 @@
-//! Tests of the tables of curves.
-#![tactic(auto)]
-
-#[cfg(test)]
-mod curves;

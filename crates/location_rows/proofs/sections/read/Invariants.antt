@@ -1,6 +1,0 @@
--- Tokens are due.
-use Rattle.location_table.specs.SectionLeft.{IsReading}
-use Rattle.location_rows.proofs.sections.read.Given as goal
-
-abbrev pub invariant-loop-word : goal.invariant-loop-word
-invariant-loop-word l = IsReading l.reader

@@ -1,5 +1,0 @@
-//! Tests of the table of locations.
-#![tactic(auto)]
-
-#[cfg(test)]
-mod sections;

@@ -1,5 +1,0 @@
-//! Tests of the tables of meshes and of polygons.
-#![tactic(auto)]
-
-#[cfg(test)]
-mod meshes;

@@ -1,5 +1,0 @@
-//! Tests of the tables of surfaces.
-#![tactic(auto)]
-
-#[cfg(test)]
-mod surfaces;
