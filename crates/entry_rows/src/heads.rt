@@ -127,7 +127,10 @@ fn short_edge_rep(rep: &EdgeRep) -> bool
         EdgeRep::Curve { texts, .. } => short(texts),
         EdgeRep::Curve2 { texts, .. } => short(texts),
         EdgeRep::Seam { texts, .. } => short(texts),
-        _ => true,
+        EdgeRep::Joint { .. } => true,
+        EdgeRep::Polygon { .. } => true,
+        EdgeRep::PolygonOn { .. } => true,
+        EdgeRep::SeamPolygons { .. } => true,
     }
 }
 
@@ -135,9 +138,14 @@ fn short_edge_rep(rep: &EdgeRep) -> bool
 fn short_points(reps: &PointReps) -> bool
     ensures { IsTrue result → AllByRecursion IsShortPoint reps.now }
 {
-    for rep in reps.as_slice() {
-        if !short_point(rep) {
-            return false;
+    for at in 0..reps.len() {
+        match reps.get(at) {
+            Some(rep) => {
+                if !short_point(rep) {
+                    return false;
+                }
+            }
+            None => return false,
         }
     }
     true
@@ -147,9 +155,14 @@ fn short_points(reps: &PointReps) -> bool
 fn short_edge_reps(reps: &EdgeReps) -> bool
     ensures { IsTrue result → AllByRecursion IsShortEdgeRep reps.now }
 {
-    for rep in reps.as_slice() {
-        if !short_edge_rep(rep) {
-            return false;
+    for at in 0..reps.len() {
+        match reps.get(at) {
+            Some(rep) => {
+                if !short_edge_rep(rep) {
+                    return false;
+                }
+            }
+            None => return false,
         }
     }
     true

@@ -1,8 +1,11 @@
 //! Rows of locations: the words of all places, and the tokens that the entries are spelled by. The offset of a token is
 //! that of its first byte in the text, whose words have one space between them.
+ghost use Rattle.std.specs.Prelude.{◌≤◌, ◌<◌, IsTrue, length};
+ghost use Rattle.location_table.specs.Held.{most_entries};
+ghost use Rattle.location_table.specs.Spell.{CanSpellLocation};
 
 use crate::reading::{Stop, token};
-use crate::saying::{add, add_number, add_texts, add_token, counted, short, stopped, unknown};
+use crate::saying::{add, add_number, add_texts, add_token, counted, short, stopped};
 use brep_tokens::{Decimals, Progress};
 use location_table::{Factor, Factors, LocationEntry, LocationReader, Locations, LocationsReader};
 use row_parts::Row;
@@ -110,11 +113,19 @@ fn datums(alloc: Global, section: &Locations) -> Result<String, AllocError> {
     Ok(said)
 }
 
+/// Fits each decimal of an entry a token?
+fn can_spell(entry: &LocationEntry) -> bool
+    ensures { IsTrue result → CanSpellLocation entry.now }
+{
+    match entry {
+        LocationEntry::Datum(texts) => short(texts),
+        LocationEntry::Product(_) => true,
+    }
+}
+
 /// Appends the tokens of an entry.
 fn add_entry(said: &mut String, entry: &LocationEntry) -> Result<(), AllocError> {
-    if let LocationEntry::Datum(texts) = entry
-        && !short(texts)
-    {
+    if !can_spell(entry) {
         return add(said, "too long");
     }
     for token in entry.spell() {
@@ -132,14 +143,17 @@ fn spelled(alloc: Global, section: &Locations) -> Result<String, AllocError> {
     Ok(said)
 }
 
-/// A datum of one decimal, for a word `1`; a product of no factor, for any other word.
-fn made(alloc: Global, word: &str) -> Result<LocationEntry, AllocError> {
-    if word != "1" {
-        return Ok(LocationEntry::Product(Factors::new(alloc)));
+/// Adds a datum of one decimal, for a word `1`; a product of no factor, for any other word.
+fn add_made(section: &mut Locations, alloc: Global, word: &str) -> Result<(), AllocError>
+    requires { length section.old < most_entries }
+{
+    if word == "1" {
+        let mut texts = Decimals::new(alloc);
+        texts.push(b"1")?;
+        section.add(LocationEntry::Datum(texts))
+    } else {
+        section.add(LocationEntry::Product(Factors::new(alloc)))
     }
-    let mut texts = Decimals::new(alloc);
-    texts.push(word.as_bytes())?;
-    Ok(LocationEntry::Datum(texts))
 }
 
 /// A section to which an entry was added for each word.
@@ -147,7 +161,7 @@ fn added(alloc: Global, text: &str) -> Result<Locations, AllocError> {
     let mut section = Locations::new(alloc);
     for word in text.split_whitespace() {
         if section.len() < 10_000 {
-            section.add(made(alloc, word)?)?;
+            add_made(&mut section, alloc, word)?;
         }
     }
     Ok(section)

@@ -23,9 +23,11 @@ fn add_polygon(said: &mut String, polygon: &Polygon3) -> Result<(), AllocError> 
     let params = if polygon.params { polygon.nodes } else { 0 };
     if polygon.nodes >= 1_000_000
         || polygon.texts.len() as u64 != 1 + 3 * polygon.nodes + params
-        || !short(&polygon.texts)
     {
         return add(said, "not shaped");
+    }
+    if !short(&polygon.texts) {
+        return add(said, "too long");
     }
     for token in polygon.spell() {
         add_token(said, &token)?;
@@ -40,8 +42,11 @@ fn add_polygon_on(said: &mut String, polygon: &PolygonOnMesh) -> Result<(), Allo
     } else {
         0
     };
-    if polygon.texts.is_empty() || polygon.texts.len() - 1 != params || !short(&polygon.texts) {
+    if polygon.texts.is_empty() || polygon.texts.len() - 1 != params {
         return add(said, "not shaped");
+    }
+    if !short(&polygon.texts) {
+        return add(said, "too long");
     }
     for token in polygon.spell() {
         add_token(said, &token)?;
@@ -49,7 +54,7 @@ fn add_polygon_on(said: &mut String, polygon: &PolygonOnMesh) -> Result<(), Allo
     Ok(())
 }
 
-/// Is each list of the mesh as long as its counts say, which are below a million?
+/// Appends the tokens of a mesh with less than a million nodes and triangles.
 fn add_mesh(said: &mut String, mesh: &Mesh) -> Result<(), AllocError> {
     if mesh.nodes >= 1_000_000 || mesh.triangles >= 1_000_000 {
         return add(said, "not small");
@@ -57,9 +62,11 @@ fn add_mesh(said: &mut String, mesh: &Mesh) -> Result<(), AllocError> {
     let params = if mesh.uv { 2 * mesh.nodes } else { 0 };
     if mesh.texts.len() as u64 != 1 + 3 * mesh.nodes + params
         || mesh.corners.len() as u64 != 3 * mesh.triangles
-        || !short(&mesh.texts)
     {
         return add(said, "not shaped");
+    }
+    if !short(&mesh.texts) {
+        return add(said, "too long");
     }
     for token in mesh.spell() {
         add_token(said, &token)?;

@@ -6,15 +6,24 @@ use brep_desk::{Chan, Desk, MemoryDesk};
 use history_text::{HistoryFile, emit};
 use std::alloc::{AllocError, Global};
 
-/// A desk that moves so many bytes a call, and whose call of this number fails.
-pub fn desk_of(alloc: Global, piece: usize, fails: Option<u64>) -> Result<MemoryDesk, AllocError>
-    requires { 0 < piece }
+/// So many bytes, from 1 to a million; a thousand for any other number.
+fn piece_of(bytes: u64) -> usize
+    ensures { 0 < result }
 {
+    if bytes == 0 || bytes > 1_000_000 {
+        1_000
+    } else {
+        bytes as usize
+    }
+}
+
+/// A desk that moves so many bytes a call, and whose call of this number fails.
+pub fn desk_of(alloc: Global, bytes: u64, fails: Option<u64>) -> Result<MemoryDesk, AllocError> {
     let mut failing = Vec::new(alloc);
     if let Some(call) = fails {
         failing.push(call)?;
     }
-    Ok(MemoryDesk::new(alloc, Vec::new(alloc), failing, piece))
+    Ok(MemoryDesk::new(alloc, Vec::new(alloc), failing, piece_of(bytes)))
 }
 
 /// Appends in how many bytes a history is written over a channel, or behind how many the writing stops.

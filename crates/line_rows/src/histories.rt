@@ -9,7 +9,7 @@ use std::alloc::{AllocError, Global};
 
 /// The answer to a row of this module.
 pub fn answer(alloc: Global, row: &Row<'_>, text: &str) -> Result<Option<String>, AllocError> {
-    let piece = row.first.unwrap_or(1_000).max(1).min(1_000_000) as usize;
+    let piece = row.first.unwrap_or(1_000);
     let said = match row.word {
         "emit" => once(
             alloc,
