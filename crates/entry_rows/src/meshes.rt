@@ -21,9 +21,7 @@ pub fn answer(alloc: Global, row: &Row<'_>, text: &str) -> Result<Option<String>
 /// Appends the tokens of a polygon with less than a million nodes.
 fn add_polygon(said: &mut String, polygon: &Polygon3) -> Result<(), AllocError> {
     let params = if polygon.params { polygon.nodes } else { 0 };
-    if polygon.nodes >= 1_000_000
-        || polygon.texts.len() as u64 != 1 + 3 * polygon.nodes + params
-    {
+    if polygon.nodes >= 1_000_000 || polygon.texts.len() as u64 != 1 + 3 * polygon.nodes + params {
         return add(said, "not shaped");
     }
     if !short(&polygon.texts) {
