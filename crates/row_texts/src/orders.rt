@@ -43,6 +43,8 @@ pub enum Sweep {
 #[derive(Clone, Copy, Debug, PartialEq, Eq)]
 pub enum Order {
     Row,
+    /// Ends the text that is given.
+    End,
     Piece,
     Fail,
     Give(Give),
@@ -88,6 +90,7 @@ fn sweep_of(word: &str) -> Option<Sweep> {
 fn plain_of(word: &str) -> Option<Order> {
     match word {
         "row" => Some(Order::Row),
+        "end" => Some(Order::End),
         "piece" => Some(Order::Piece),
         "fail" => Some(Order::Fail),
         _ => None,

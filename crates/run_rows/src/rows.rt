@@ -86,6 +86,10 @@ impl Rows {
                 self.begin_row();
                 Ok(())
             }
+            Order::End => {
+                self.open = Open::Nothing;
+                Ok(())
+            }
             Order::Piece => self.set_piece(rest),
             Order::Fail => {
                 self.failing = numbers_of(self.alloc, rest)?;

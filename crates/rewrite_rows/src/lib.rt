@@ -1,7 +1,0 @@
-//! Tests of whole runs: rewrites by scripts, and files with locations.
-#![tactic(auto)]
-
-#[cfg(test)]
-mod locations;
-#[cfg(test)]
-mod rewrites;
