@@ -1,7 +1,7 @@
 //! The orders of the input, by their words.
 
 /// What gives a text, or adds to the one that is given last.
-#[derive(Clone, Copy, Debug, PartialEq, Eq)]
+#[derive(Clone, Copy)]
 pub enum Give {
     /// Begins a text that all later rows may use.
     Keep,
@@ -15,7 +15,7 @@ pub enum Give {
 }
 
 /// What runs the program once.
-#[derive(Clone, Copy, Debug, PartialEq, Eq)]
+#[derive(Clone, Copy)]
 pub enum Ran {
     /// Words over a new desk.
     Run,
@@ -30,7 +30,7 @@ pub enum Ran {
 }
 
 /// What reads or runs many times, or reads without a desk.
-#[derive(Clone, Copy, Debug, PartialEq, Eq)]
+#[derive(Clone, Copy)]
 pub enum Sweep {
     FailEach,
     Prefixes,
@@ -40,7 +40,7 @@ pub enum Sweep {
 }
 
 /// An order of the input.
-#[derive(Clone, Copy, Debug, PartialEq, Eq)]
+#[derive(Clone, Copy)]
 pub enum Order {
     Row,
     /// Ends the text that is given.
