@@ -13,7 +13,7 @@ fn meant(byte: u8) -> u8 {
 }
 
 /// The bytes of a text in which `\n`, `\r`, `\t` and `\s` stand for the bytes 10, 13, 9 and 32, and `\\` for `\`.
-pub fn unescaped(alloc: Global, text: &str) -> Result<Vec<u8>, AllocError> {
+pub(crate) fn unescaped(alloc: Global, text: &str) -> Result<Vec<u8>, AllocError> {
     let mut bytes = Vec::new(alloc);
     let mut behind = false;
     for byte in text.as_bytes() {
@@ -30,7 +30,7 @@ pub fn unescaped(alloc: Global, text: &str) -> Result<Vec<u8>, AllocError> {
 }
 
 /// The bytes so many times.
-pub fn repeated(alloc: Global, bytes: &[u8], times: u64) -> Result<Vec<u8>, AllocError> {
+pub(crate) fn repeated(alloc: Global, bytes: &[u8], times: u64) -> Result<Vec<u8>, AllocError> {
     if let [byte] = bytes {
         return vec![in alloc; *byte; times as usize];
     }
@@ -54,7 +54,12 @@ fn add_numbered(all: &mut Vec<u8>, bytes: &[u8], number: &[u8]) -> Result<(), Al
 }
 
 /// The bytes once for each number from the first to the last, up or down, with the number in the place of each `@`.
-pub fn numbered(alloc: Global, bytes: &[u8], first: u64, last: u64) -> Result<Vec<u8>, AllocError> {
+pub(crate) fn numbered(
+    alloc: Global,
+    bytes: &[u8],
+    first: u64,
+    last: u64,
+) -> Result<Vec<u8>, AllocError> {
     let mut all = Vec::new(alloc);
     for step in 0..=first.abs_diff(last) {
         let number = if first < last {

@@ -2,11 +2,12 @@
 #![tactic(auto)]
 
 mod escapes;
+mod given;
 mod numbers;
 mod orders;
 mod texts;
 
-pub use escapes::{numbered, repeated, unescaped};
-pub use numbers::{bytes_of, number_and_rest, numbers_of};
+pub use given::Given;
+pub use numbers::{number_and_rest, numbers_of};
 pub use orders::{Give, Order, Ran, Sweep, order_of};
 pub use texts::{Named, Texts};

@@ -20,7 +20,7 @@ pub fn numbers_of(alloc: Global, text: &str) -> Result<Vec<u64>, AllocError> {
 }
 
 /// The bytes whose numbers are among the words.
-pub fn bytes_of(alloc: Global, text: &str) -> Result<Vec<u8>, AllocError> {
+pub(crate) fn bytes_of(alloc: Global, text: &str) -> Result<Vec<u8>, AllocError> {
     let mut bytes = Vec::new(alloc);
     for word in text.split(' ') {
         if let Ok(byte) = word.parse::<u8>() {

@@ -5,30 +5,17 @@ use crate::runs::{desk_of, ran, words_of};
 use crate::sweeps::{cuts_text, fail_each_text, prefixes_text};
 use brep_desk::MemoryDesk;
 use brep_run::Outcome;
-use row_texts::{
-    Give, Order, Ran, Sweep, Texts, bytes_of, number_and_rest, numbered, numbers_of, order_of,
-    repeated, unescaped,
-};
+use row_texts::{Given, Order, Ran, Sweep, number_and_rest, numbers_of, order_of};
 use std::alloc::{AllocError, Global};
 
 /// How many bytes a call moves where a row says nothing of it.
 const PIECE: usize = 4096;
 
-/// The text that lines are added to.
-#[derive(Clone, Copy, PartialEq, Eq)]
-enum Open {
-    Nothing,
-    Kept,
-    Given,
-}
-
 /// The row that is read, and all that is said.
 #[derive(Drop)]
 pub(crate) struct Rows {
     alloc: Global,
-    kept: Texts,
-    given: Texts,
-    open: Open,
+    given: Given,
     failing: Vec<u64>,
     piece: usize,
     desk: Option<MemoryDesk>,
@@ -39,9 +26,7 @@ impl Rows {
     pub(crate) fn new(alloc: Global) -> Rows {
         Rows {
             alloc,
-            kept: Texts::new(alloc),
-            given: Texts::new(alloc),
-            open: Open::Nothing,
+            given: Given::new(alloc),
             failing: Vec::new(alloc),
             piece: PIECE,
             desk: None,
@@ -59,6 +44,11 @@ impl Rows {
         self.said.push_str("\n")
     }
 
+    /// Says that a line isn't understood, where it isn't.
+    fn say_unless(&mut self, understood: bool) -> Result<(), AllocError> {
+        if understood { Ok(()) } else { self.say("?") }
+    }
+
     /// The next line of the input.
     pub(crate) fn take(&mut self, line: &str) -> Result<(), AllocError> {
         self.say(line)?;
@@ -68,16 +58,10 @@ impl Rows {
         }
     }
 
-    /// A line that is no order: of the text that is open, or else a note.
+    /// A line that is no order: of the text that is given, or else a note.
     fn plain(&mut self, line: &str) -> Result<(), AllocError> {
-        if self.open != Open::Nothing {
-            self.add(line.as_bytes())?;
-            return self.add(b"\n");
-        }
-        if line.is_empty() || line.starts_with('#') {
-            return Ok(());
-        }
-        self.say("?")
+        let added = self.given.add_line(line)?;
+        self.say_unless(added || line.is_empty() || line.starts_with('#'))
     }
 
     fn follow(&mut self, order: Order, rest: &str) -> Result<(), AllocError> {
@@ -87,7 +71,7 @@ impl Rows {
                 Ok(())
             }
             Order::End => {
-                self.open = Open::Nothing;
+                self.given.end();
                 Ok(())
             }
             Order::Piece => self.set_piece(rest),
@@ -95,15 +79,17 @@ impl Rows {
                 self.failing = numbers_of(self.alloc, rest)?;
                 Ok(())
             }
-            Order::Give(give) => self.give(give, rest),
+            Order::Give(give) => {
+                let understood = self.given.give(give, rest)?;
+                self.say_unless(understood)
+            }
             Order::Ran(way) => self.run_way(way, rest),
             Order::Sweep(sweep) => self.sweep(sweep, rest),
         }
     }
 
     fn begin_row(&mut self) {
-        self.given = Texts::new(self.alloc);
-        self.open = Open::Nothing;
+        self.given.begin_row();
         self.failing = Vec::new(self.alloc);
         self.piece = PIECE;
         self.desk = None;
@@ -119,92 +105,19 @@ impl Rows {
         }
     }
 
-    /// Adds to the text that is open.
-    fn add(&mut self, bytes: &[u8]) -> Result<(), AllocError> {
-        match self.open {
-            Open::Kept => self.kept.add(bytes),
-            Open::Given => self.given.add(bytes),
-            Open::Nothing => self.say("?"),
-        }
-    }
-
-    fn begin_file(&mut self, name: &str) -> Result<(), AllocError> {
-        self.open = Open::Given;
-        self.given.begin(name)
-    }
-
-    fn give(&mut self, give: Give, rest: &str) -> Result<(), AllocError> {
-        match give {
-            Give::Keep => {
-                self.open = Open::Kept;
-                self.kept.begin(rest)
-            }
-            Give::File => self.begin_file(rest),
-            Give::Use => self.add_kept(rest),
-            Give::Text => self.add_text(rest),
-            Give::Bytes => {
-                let bytes = bytes_of(self.alloc, rest)?;
-                self.add(&bytes)
-            }
-            Give::Repeat => self.add_repeated(rest),
-            Give::Count => self.add_numbered(rest),
-        }
-    }
-
-    fn add_text(&mut self, text: &str) -> Result<(), AllocError> {
-        let bytes = unescaped(self.alloc, text)?;
-        self.add(&bytes)
-    }
-
-    /// The bytes of a text that is kept.
-    fn kept_bytes(&self, name: &str) -> Result<Option<Vec<u8>>, AllocError> {
-        match self.kept.of(name) {
-            Some(bytes) => Ok(Some(bytes.to_vec(self.alloc)?)),
-            None => Ok(None),
-        }
-    }
-
-    fn add_kept(&mut self, name: &str) -> Result<(), AllocError> {
-        match self.kept_bytes(name)? {
-            Some(bytes) => self.add(&bytes),
-            None => self.say("?"),
-        }
-    }
-
-    fn add_repeated(&mut self, rest: &str) -> Result<(), AllocError> {
-        let Some((times, text)) = number_and_rest(rest) else {
-            return self.say("?");
-        };
-        let bytes = unescaped(self.alloc, text)?;
-        let all = repeated(self.alloc, &bytes, times)?;
-        self.add(&all)
-    }
-
-    fn add_numbered(&mut self, rest: &str) -> Result<(), AllocError> {
-        let Some((first, rest)) = number_and_rest(rest) else {
-            return self.say("?");
-        };
-        let Some((last, text)) = number_and_rest(rest) else {
-            return self.say("?");
-        };
-        let bytes = unescaped(self.alloc, text)?;
-        let all = numbered(self.alloc, &bytes, first, last)?;
-        self.add(&all)
-    }
-
     fn run_way(&mut self, way: Ran, rest: &str) -> Result<(), AllocError> {
         match way {
             Ran::Run => self.run_new(rest),
             Ran::Then => self.run_then(rest),
             Ran::Copy => {
-                self.begin_file("in")?;
-                self.add_text(rest)?;
+                self.given.begin_file("in")?;
+                self.given.add_text(rest)?;
                 self.run_new("copy in out")
             }
             Ran::After => self.run_after(rest),
             Ran::Script => {
-                self.begin_file("script")?;
-                self.add_text(rest)?;
+                self.given.begin_file("script")?;
+                self.given.add_text(rest)?;
                 self.run_new("rewrite in script out history")
             }
         }
@@ -213,15 +126,15 @@ impl Rows {
     /// A copy of a kept text and another behind it.
     fn run_after(&mut self, rest: &str) -> Result<(), AllocError> {
         let (name, text) = rest.split_once(' ').unwrap_or((rest, ""));
-        self.begin_file("in")?;
-        self.add_kept(name)?;
-        self.add_text(text)?;
+        self.given.begin_file("in")?;
+        self.given.add_kept(name)?;
+        self.given.add_text(text)?;
         self.run_new("copy in out")
     }
 
     /// Runs the words over a new desk.
     fn run_new(&mut self, line: &str) -> Result<(), AllocError> {
-        let desk = desk_of(self.alloc, &self.given, &self.failing, self.piece)?;
+        let desk = desk_of(self.alloc, self.given.files(), &self.failing, self.piece)?;
         self.run_over(desk, line)
     }
 
@@ -234,12 +147,12 @@ impl Rows {
     }
 
     fn run_over(&mut self, mut desk: MemoryDesk, line: &str) -> Result<(), AllocError> {
-        self.open = Open::Nothing;
+        self.given.end();
         let words = words_of(self.alloc, line)?;
         let outcome = ran(self.alloc, &words, &mut desk);
         let known = Known {
-            given: &self.given,
-            kept: &self.kept,
+            given: self.given.files(),
+            kept: self.given.kept(),
         };
         let text = run_text(self.alloc, known, Layout::Lines, &outcome, &desk, &words)?;
         self.desk = Some(desk);
@@ -248,7 +161,7 @@ impl Rows {
 
     /// The bytes of a file of the row.
     fn given_bytes(&self, name: &str) -> Result<Vec<u8>, AllocError> {
-        match self.given.of(name) {
+        match self.given.files().of(name) {
             Some(bytes) => bytes.to_vec(self.alloc),
             None => Ok(Vec::new(self.alloc)),
         }
@@ -257,8 +170,8 @@ impl Rows {
     /// The answers of a sweep, each with the end of its line.
     fn sweep_text(&self, sweep: Sweep, rest: &str) -> Result<String, AllocError> {
         let known = Known {
-            given: &self.given,
-            kept: &self.kept,
+            given: self.given.files(),
+            kept: self.given.kept(),
         };
         match sweep {
             Sweep::FailEach => fail_each_text(self.alloc, known, self.piece, rest),
@@ -288,7 +201,7 @@ impl Rows {
     }
 
     fn sweep(&mut self, sweep: Sweep, rest: &str) -> Result<(), AllocError> {
-        self.open = Open::Nothing;
+        self.given.end();
         let text = self.sweep_text(sweep, rest)?;
         self.say(text.as_str().trim_end())
     }
