@@ -4,17 +4,21 @@
 //! its answer. A row `pool ..` makes the pool that the rows after it are about.
 #![tactic(auto)]
 
+mod asking;
 mod checks;
 mod histories;
+mod making;
 mod maps;
 mod numbers;
 mod parse;
+mod plans;
 mod pools;
 mod scene;
+mod texts;
 
 use checks::requests_row;
 use histories::{chain_row, start_row, step_row, steps_row};
-use maps::{above_row, count_row, map_row};
+use maps::{above_count_row, above_row, count_row, map_row};
 use numbers::{ids_row, pairs_row};
 use parse::Stop;
 use pools::pool_row;
@@ -34,6 +38,7 @@ fn answer(alloc: Global, held: &str, word: &str, rest: &str) -> Result<String, S
         b"map" => map_row(alloc, held, rest),
         b"count" => count_row(alloc, held, rest),
         b"above" => above_row(alloc, held, rest),
+        b"above-count" => above_count_row(alloc, held, rest),
         b"ids" => ids_row(alloc, rest),
         b"pairs" => pairs_row(alloc, rest),
         _ => Err(Stop::Unreadable),

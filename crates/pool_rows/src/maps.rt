@@ -83,6 +83,15 @@ fn put_above(
     Ok(())
 }
 
+/// How many pairs of a shape and one above it there are.
+fn pairs_of(above: &AncestorMap) -> u64 {
+    let mut pairs = 0u64;
+    for one in above.as_slice() {
+        pairs = pairs.saturating_add(one.high.len() as u64);
+    }
+    pairs
+}
+
 /// `map Fa 1@a`: the shapes of a kind below a root, each once, or why they are refused.
 pub(crate) fn map_row(alloc: Global, held: &str, rest: &str) -> Result<String, Stop> {
     let mut words = words_of(alloc, held, rest)?;
@@ -130,6 +139,28 @@ pub(crate) fn above_row(alloc: Global, held: &str, rest: &str) -> Result<String,
         kind(high)?,
     ) {
         Ok(above) => put_above(&mut out, &scene, &words, &above)?,
+        Err(fault) => put_fault(&mut out, &fault)?,
+    }
+    Ok(out)
+}
+
+/// `above-count Ed Fa 1`: how many pairs of a shape and one above it there are.
+pub(crate) fn above_count_row(alloc: Global, held: &str, rest: &str) -> Result<String, Stop> {
+    let mut words = words_of(alloc, held, rest)?;
+    let scene = scene_of(alloc, &words, held)?;
+    let (low, later) = halves(rest, ' ');
+    let (high, text) = halves(later, ' ');
+    let root = root_of(alloc, &scene, &words, text)?;
+    let mut out = String::new(alloc);
+    match ancestors(
+        alloc,
+        &scene.pool,
+        &mut words,
+        root,
+        kind(low)?,
+        kind(high)?,
+    ) {
+        Ok(above) => put_number(&mut out, pairs_of(&above))?,
         Err(fault) => put_fault(&mut out, &fault)?,
     }
     Ok(out)

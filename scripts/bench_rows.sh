@@ -1,0 +1,103 @@
+#!/usr/bin/env bash
+# Times the calls over a pool of shapes: loading, the check of a step, a list of shapes and a history, each over 50,000, 100,000 and 200,000
+# nodes, so that it can be read off that twice the nodes take twice the time. Then it lists 1,048,575 shapes of twenty nodes, and answers the
+# limits that take long to reach. By hand, not in the gate. usage: scripts/bench_rows.sh [NODES ..]
+set -euo pipefail
+here=$(cd "$(dirname "$0")/.." && pwd)
+program=$here/crates/pool_rows/out/pool_rows
+[ -x "$program" ] || { echo 'bench_rows: crates/pool_rows is not built: rt run in crates/pool_rows, or rt ci pool_rows' >&2; exit 1; }
+work=$(mktemp -d)
+trap 'rm -rf "$work"' EXIT
+if [ $# -eq 0 ]; then set -- 50000 100000 200000; fi
+
+# A pool of so many nodes: vertices, an edge over each and the next, two edges a wire, and a compound over all wires.
+pool() {
+    awk -v n="$1" 'BEGIN {
+        v = int(n * 2 / 5); top = v + (v - 1) + int((v - 1) / 2) + 1
+        printf "pool Ve 1"
+        for (i = 2; i <= v; i++) printf "; Ve %d", i
+        for (i = 1; i < v; i++) printf "; Ed %d +%d -%d", v + i, i, i + 1
+        for (i = 1; i <= (v - 1) / 2; i++) printf "; Wi %d +%d +%d", 2 * v - 1 + i, v + 2 * i - 1, v + 2 * i
+        printf "; Co %d", top
+        for (i = 1; i <= (v - 1) / 2; i++) printf " +%d", 2 * v - 1 + i
+        print ""
+    }'
+}
+
+# A question about it.
+#   check    every second vertex is replaced by the one before it, at a place and everywhere else
+#   map      all shapes
+#   step     each edge is replaced by the next one, and every other shape is its own image
+#   chain    that history after itself
+question() {
+    awk -v n="$1" -v what="$2" 'BEGIN {
+        v = int(n * 2 / 5); top = v + (v - 1) + int((v - 1) / 2) + 1
+        if (what == "check") {
+            printf "requests replace 2 by 1"
+            for (i = 4; i <= v; i += 2) printf "; replace %d by %d; replace %d@a by %d@b", i, i - 1, i, i - 1
+            printf "; size %d\n", top
+        } else if (what == "map") {
+            printf "count All %d\n", top
+        } else if (what == "step") {
+            printf "step %d %d :", top, top
+            for (i = 1; i <= v; i++) printf " %d", i
+            for (i = v + 1; i < 2 * v - 1; i++) printf " %d>%d", i, i + 1
+            printf " /"
+            for (i = v + 1; i < 2 * v - 1; i++) printf " %d>%d", i, i + 1
+            print ""
+        } else {
+            printf "chain %d %d :", top, top
+            for (k = 0; k < 2; k++) {
+                if (k == 1) printf " ;"
+                for (i = 1; i <= v; i++) printf " %d", i
+                for (i = v + 1; i < 2 * v - 1; i++) printf " %d>%d", i, i + 1
+            }
+            print ""
+        }
+    }'
+}
+
+# The processor seconds and the peak memory in KiB of the program on rows.
+measure() {
+    python3 - "$program" "$1" <<'PY'
+import resource, subprocess, sys
+with open(sys.argv[2], 'rb') as rows:
+    subprocess.run([sys.argv[1]], check=True, stdin=rows, stdout=subprocess.DEVNULL)
+use = resource.getrusage(resource.RUSAGE_CHILDREN)
+print('%.3f %d' % (use.ru_utime + use.ru_stime, use.ru_maxrss))
+PY
+}
+
+# A row of the table. A question loads the pool once more, so twice the time of loading is taken off.
+printf '%-10s %10s %14s %14s\n' call nodes 'processor s' 'peak KiB'
+for nodes in "$@"; do
+    pool "$nodes" >"$work/pool"
+    read -r load memory <<<"$(measure "$work/pool")"
+    printf '%-10s %10d %14.3f %14d\n' load "$nodes" "$load" "$memory"
+    for what in check map step chain; do
+        { cat "$work/pool"; question "$nodes" "$what"; } >"$work/rows"
+        read -r all memory <<<"$(measure "$work/rows")"
+        printf '%-10s %10d %14.3f %14d\n' "$what" "$nodes" "$(awk -v a="$all" -v b="$load" 'BEGIN { print a - 2 * b }')" "$memory"
+    done
+done
+
+# Answers that take long to reach: rows with what is due.
+cat >"$work/due" <<'ROWS'
+pool Ve 1; nest A 19 1@a 1@b -> 0; 19
+count All A -> 1048575
+pool many Ve 4194304; Co A -> 4194304; too-many 4194305
+pool Ve 1; Ve 2; nest A 16 1@a 1@b; nest B 240 A; Co C +B +2 -> 0; 1; 17; 257; 258
+above-count Ve Co B -> 16777216
+above-count Ve Co C -> pairs 16777217
+ROWS
+echo
+while IFS= read -r row; do
+    case "$row" in
+        pool*) printf '%s\n' "${row%% -> *}" >"$work/pool"; cp "$work/pool" "$work/rows" ;;
+        *) { cat "$work/pool"; printf '%s\n' "${row%% -> *}"; } >"$work/rows" ;;
+    esac
+    got=$("$program" <"$work/rows" | tail -n 1)
+    [ "$got" = "$row" ] || { printf 'bench_rows: due: %s\nbench_rows: got: %s\n' "$row" "$got" >&2; exit 1; }
+    read -r seconds memory <<<"$(measure "$work/rows")"
+    printf '%-60s %10.3f s %10d KiB\n' "${row%% -> *}" "$seconds" "$memory"
+done <"$work/due"
