@@ -1,5 +1,5 @@
 //! Nodes that are made, over uses that may stand in them.
-ghost use Rattle.std.specs.Prelude.{◌≡◌, ◌<◌, ◌→◌, ℕ, IsTrue, length};
+ghost use Rattle.std.specs.Prelude.{◌≡◌, ◌<◌, ℕ, IsTrue, length};
 ghost use Rattle.orientation.specs.Kinds.{IsBelow};
 ghost use Rattle.shape_pool.specs.Rows.{kind_at, AllBelow, AllHeld, AllPlaced, HasPlaces};
 

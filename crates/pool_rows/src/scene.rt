@@ -2,7 +2,7 @@
 //!
 //! The node of a record goes by its number. A compound that stands for no record goes by a capital letter. What a node
 //! is rebuilt to goes by its name and a prime more.
-ghost use Rattle.std.specs.Prelude.{◌≡◌, ◌<◌, ◌→◌, IfOk, IfSome, IsTrue, length};
+ghost use Rattle.std.specs.Prelude.{◌≡◌, ◌<◌, IfOk, IfSome, IsTrue, length};
 ghost use Rattle.orientation.specs.Kinds.{IsBelow};
 ghost use Rattle.shape_pool.specs.Rows.{kind_at};
 
