@@ -127,7 +127,7 @@ fn replace_by_next(pool: &Pool, record: u32, table: &mut RequestTable) -> Result
     Ok(())
 }
 
-/// `chain 1 9`: asks of each record from the first to the last that the next one takes its place.
+/// `chain 1 9`: from record 1 on, asks of 9 records that the next one takes the place of each.
 pub(crate) fn chain(
     pool: &Pool,
     rest: &str,
@@ -137,9 +137,10 @@ pub(crate) fn chain(
     requires { AreHeldIn pool.now table.old.requests }
     ensures { AreHeldIn pool.now table.new.requests }
 {
-    let (first, last) = halves(rest, ' ');
-    for record in number(first)?..=number(last)? {
-        replace_by_next(pool, record, table)?;
+    let (first, count) = halves(rest, ' ');
+    let from = number(first)?;
+    for step in 0..number(count)? {
+        replace_by_next(pool, from.wrapping_add(step), table)?;
     }
     put_taken(out, true)
 }
