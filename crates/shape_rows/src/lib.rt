@@ -1,5 +1,0 @@
-//! Tests of the pool of shapes.
-#![tactic(auto)]
-
-#[cfg(test)]
-mod pools;
