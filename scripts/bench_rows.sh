@@ -81,10 +81,15 @@ for nodes in "$@"; do
     done
 done
 
-# Answers that take long to reach: rows with what is due.
+# Answers that take long to reach: rows with what is due. Nineteen levels over two words have 2 ^ 20 - 1 shapes, and each of the 65,536 vertices
+# below sixteen levels and 240 further compounds stands below 256 compounds.
 cat >"$work/due" <<'ROWS'
-pool Ve 1; nest A 19 1@a 1@b -> 0; 19
+pool Ve 1; nest A 19 1@a 1@b; Co B +A; Co C +B; nest D 20 1@a 1@b -> 0; 19; 20; 21; 20
 count All A -> 1048575
+count Ve A -> 524288
+count All B -> 1048576
+count All C -> keys 1048577
+count All D -> keys 1048577
 pool many Ve 4194304; Co A -> 4194304; too-many 4194305
 pool Ve 1; Ve 2; nest A 16 1@a 1@b; nest B 240 A; Co C +B +2 -> 0; 1; 17; 257; 258
 above-count Ve Co B -> 16777216

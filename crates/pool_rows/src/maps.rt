@@ -1,5 +1,5 @@
 //! Rows about the shapes of a root, and those above others.
-ghost use Rattle.std.specs.Prelude.{◌<◌, length};
+ghost use Rattle.std.specs.Prelude.{◌<◌, IfOk, length};
 ghost use Rattle.shape_pool.specs.Rows.{HasPlaces};
 
 use crate::parse::{Stop, halves, kind, kind_or_all, put_break, put_number, put_word, words_of};
@@ -51,13 +51,16 @@ fn put_shape(out: &mut String, scene: &Scene, words: &Words, shape: ShapeAt) -> 
     put_word(out, words, shape.word)
 }
 
-/// Writes shapes.
+/// Writes shapes, or `none`.
 fn put_shapes(
     out: &mut String,
     scene: &Scene,
     words: &Words,
     shapes: &ShapeMap,
 ) -> Result<(), Stop> {
+    if shapes.is_empty() {
+        out.push_str("none")?;
+    }
     let mut mark = "";
     for shape in shapes.as_slice() {
         out.push_str(mark)?;
