@@ -1,5 +1,5 @@
 //! Requests that are added to a table.
-ghost use Rattle.std.specs.Prelude.{◌<◌, IfOk, length};
+ghost use Rattle.std.specs.Prelude.{◌≡◌, ◌<◌, IfOk, length};
 ghost use Rattle.requests.specs.Numbered.{ActIsHeldIn, AreHeldIn, IsHeldIn};
 
 use crate::parse::{Stop, halves, kind, number, place_of, turn_of, unsigned};
@@ -146,7 +146,9 @@ pub(crate) fn chain(
 }
 
 /// `until Fa`: sets down to which kind the step goes.
-pub(crate) fn until(rest: &str, table: &mut RequestTable, out: &mut String) -> Result<(), Stop> {
+pub(crate) fn until(rest: &str, table: &mut RequestTable, out: &mut String) -> Result<(), Stop>
+    ensures { table.new.requests ≡ table.old.requests }
+{
     let prune = table.rule().prune;
     let stop = kind(rest)?;
     table.set_rule(Rule { stop, prune });
@@ -155,7 +157,9 @@ pub(crate) fn until(rest: &str, table: &mut RequestTable, out: &mut String) -> R
 }
 
 /// `prune`: sets the prune mark.
-pub(crate) fn prune(table: &mut RequestTable, out: &mut String) -> Result<(), Stop> {
+pub(crate) fn prune(table: &mut RequestTable, out: &mut String) -> Result<(), Stop>
+    ensures { table.new.requests ≡ table.old.requests }
+{
     let stop = table.rule().stop;
     table.set_rule(Rule { stop, prune: true });
     out.push_str("ok")?;

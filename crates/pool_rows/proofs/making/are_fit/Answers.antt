@@ -11,13 +11,14 @@ pub loop-one-preserved : goal.loop-one-preserved
 loop-one-preserved c =
     let i = c.loop-one.one-index in
     let uses = c.args.uses.now in
-    let rows = c.args.pool.now in
-    (all-more (λ (u : UseOf). u.id.0 < length rows) uses i _ (omega arith) c.loop-one.invariant.0
-    (c.if-not-fits.ensures.held refl),
-    all-more (λ (u : UseOf). IsBelow (kind_at rows u.id.0) c.args.kind) uses i _ (omega arith) c.loop-one.invariant.1
-    (c.if-not-fits.ensures.below refl),
-    all-more (λ (u : UseOf). u.place.0 < length c.args.words.now) uses i _ (omega arith) c.loop-one.invariant.2
-    (c.if-not-fits.ensures.place refl))
+    let rows = c.args.pool.now in (
+      all-more (λ (u : UseOf). u.id.0 < length rows) uses i _ (omega arith) c.loop-one.invariant.0
+          (c.if-not-fits.ensures.held refl),
+      all-more (λ (u : UseOf). IsBelow (kind_at rows u.id.0) c.args.kind) uses i _ (omega arith) c.loop-one.invariant.1
+          (c.if-not-fits.ensures.below refl),
+      all-more (λ (u : UseOf). u.place.0 < length c.args.words.now) uses i _ (omega arith) c.loop-one.invariant.2
+          (c.if-not-fits.ensures.place refl),
+    )
 
 pub returns-clause-held : goal.returns-clause-held
 returns-clause-held c = λ t.
