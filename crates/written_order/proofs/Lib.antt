@@ -1,0 +1,5 @@
+pub mod UseLaws
+pub mod Trees
+pub mod Places
+pub mod Steps
+pub mod Written
