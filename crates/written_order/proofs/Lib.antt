@@ -1,4 +1,3 @@
-pub mod UseLaws
 pub mod Trees
 pub mod Places
 pub mod Steps

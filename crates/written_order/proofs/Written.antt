@@ -13,7 +13,7 @@ use Rattle.shape_pool.specs.Laws.{word_in}
 use Rattle.shape_pool.specs.Rows.{tree_at}
 use Rattle.written_order.specs.Orders.{OrdersNumber}
 use Rattle.written_order.specs.Placed.{IsNumbered}
-use Rattle.written_order.proofs.UseLaws.{slice_get-mapped}
+use Rattle.lists.proofs.Entries.{slice_get-mapped}
 
 -- the number of a tree among the trees of numbers
 number-of : (tree : ℕ → Tree) (root : Tree) (numbers : List ℕ) (i n : ℕ) → ListsSubtrees root (map tree numbers)

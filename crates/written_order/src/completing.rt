@@ -6,7 +6,6 @@ ghost use Rattle.std.specs.Prelude.{◌≡◌, ◌<◌, ◌+◌, All, IfOk, OnOk
 
 use crate::laws::pools_tell;
 use crate::order::Order;
-use crate::uses::{use_count, used_at};
 use expansion_laws::laws::equal_trees_tell;
 use shape_pool::{NodeId, Pool};
 use std::alloc::{AllocError, Global};
@@ -26,8 +25,8 @@ fn visit(order: &mut Order, pool: &Pool, id: NodeId) -> Result<(), AllocError>
     if order.has(id) {
         return Ok(());
     }
-    'uses: for at in 0..use_count(pool, id) {
-        visit(order, pool, used_at(pool, id, at))?;
+    'uses: for at in 0..pool.use_count(id) {
+        visit(order, pool, pool.used_at(id, at))?;
     }
     order.push(id)?;
     Ok(())

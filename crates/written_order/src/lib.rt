@@ -5,7 +5,6 @@
 mod completing;
 pub mod laws;
 mod order;
-mod uses;
 
 pub use completing::order_of;
 pub use order::Order;
