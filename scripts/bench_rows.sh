@@ -2,6 +2,10 @@
 # Times the calls over a pool of shapes: loading, the check of a step, a list of shapes and a history, each over 50,000, 100,000 and 200,000
 # nodes, so that it can be read off that twice the nodes take twice the time. Then it lists 1,048,575 shapes of twenty nodes, and answers the
 # limits that take long to reach. By hand, not in the gate. usage: scripts/bench_rows.sh [NODES ..]
+#
+# The check of a step has five loops over what the root reaches: it lists the ends of each node, searches depth first, ranks, and marks what
+# reaches a request with a place and one with a turn. Each takes a turn a node and a turn an end; the plan then takes one a node and one a live
+# request. The script prints these turns beside the time.
 set -euo pipefail
 here=$(cd "$(dirname "$0")/.." && pwd)
 program=$here/crates/pool_rows/out/pool_rows
@@ -57,6 +61,12 @@ question() {
     }'
 }
 
+# How many turns each of the five loops of that check takes: with w wires there are reached w wires, 2 w edges, 2 w + 1 vertices and the
+# compound; and their ends are 2 w and 4 w uses, the w wires of the compound, and the targets of 2 w - 1 live requests.
+turns() {
+    awk -v n="$1" 'BEGIN { w = int((int(n * 2 / 5) - 1) / 2); print (5 * w + 2) + (9 * w - 1) }'
+}
+
 # The least processor seconds of five runs, and the peak memory in KiB, of the program on rows. A row that isn't understood stops the script.
 measure() {
     python3 - "$program" "$1" <<'PY'
@@ -85,7 +95,9 @@ for nodes in "$@"; do
     for what in check map step chain; do
         { cat "$work/pool"; question "$nodes" "$what"; } >"$work/rows"
         read -r all memory <<<"$(measure "$work/rows")"
-        printf '%-10s %10d %14.3f %14d\n' "$what" "$nodes" "$all" "$memory"
+        printf '%-10s %10d %14.3f %14d' "$what" "$nodes" "$all" "$memory"
+        if [ "$what" = check ]; then printf ' %14d turns a loop' "$(turns "$nodes")"; fi
+        echo
     done
 done
 
