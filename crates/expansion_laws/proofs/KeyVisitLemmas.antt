@@ -107,6 +107,7 @@ found-from-keys s {x = x} {here = here} (onto v m l) known h =
 -- one context stands for all visits of a key
 pub keys_stand : (s : Step) → KeysStandForVisits s
 keys_stand s = record {
+  same_match = λ x here k i. match-same s x here (context_of k) (same-for-key s x here k i);
   same_demands = λ x here k i. demands-same s x here (context_of k) (same-for-key s x here k i);
   same_gathered = λ x here k parts i. gathered-same s x here (context_of k) parts (same-for-key s x here k i);
   same_results = λ x here k results i. (

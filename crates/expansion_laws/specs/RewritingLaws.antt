@@ -6,6 +6,7 @@ use Rattle.location_words.specs.Pairs.{IsWord}
 use Rattle.expansion_laws.specs.Trees.{Tree, Use}
 use Rattle.expansion_laws.specs.Contexts.{Context, inside, carried}
 use Rattle.expansion_laws.specs.Steps.{Step}
+use Rattle.expansion_laws.specs.Requests.{match_of}
 use Rattle.expansion_laws.specs.Rewriting.{Rewrites, RelativeResults}
 use Rattle.expansion_laws.specs.Derivations.{Derives}
 use Rattle.expansion_laws.specs.Visits.{LeadsTo, visits_within}
@@ -63,9 +64,11 @@ ResultsAreGathered s =
     ((p : Use × List Use) → Contains asked p → HasParts s here p) →
     RelativeResults s x here (gathered s x here (flat_map carried_parts asked))
 
--- the context that stands for a key serves each visit of that key: the demands, what is gathered from them, the results
--- and the demands' keys are the same
+-- the context that stands for a key serves each visit of that key: the match, the demands, what is gathered from them,
+-- the results and the demands' keys are the same
 pub record KeysStandForVisits (s : Step) : Type 0 where
+  pub same_match : (x : Tree) (here : Context) (k : Key) → IsKey s x here k →
+      match_of s.requests x here ≡ match_of s.requests x (context_of k)
   pub same_demands : (x : Tree) (here : Context) (k : Key) → IsKey s x here k →
       demands s x here ≡ demands s x (context_of k)
   pub same_gathered : (x : Tree) (here : Context) (k : Key) (parts : List Use) → IsKey s x here k →

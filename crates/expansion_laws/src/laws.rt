@@ -9,7 +9,8 @@ ghost use Rattle.expansion_laws.specs.StepExamples.{StepExamplesComeOut};
 ghost use Rattle.expansion_laws.specs.RuleExamples.{RuleExamplesComeOut};
 ghost use Rattle.expansion_laws.specs.UsualRule.{UsualRuleGoesThroughAll};
 ghost use Rattle.expansion_laws.specs.MeasureExamples.{MeasuresComeOut};
-ghost use Rattle.expansion_laws.specs.SlowMeasures.{MeasuresByLists, HeldTreesByLists, MeasuresAreDetermined};
+ghost use Rattle.expansion_laws.specs.Keys.{Key};
+ghost use Rattle.expansion_laws.specs.SlowMeasures.{key_eq, MeasuresByLists, HeldTreesByLists, MeasuresAreDetermined};
 ghost use Rattle.expansion_laws.specs.Ends.{EqualEndsTell, EndsComeOut};
 ghost use Rattle.expansion_laws.specs.Graph.{edges, NumbersCarry, NumbersCarrySearches};
 ghost use Rattle.expansion_laws.specs.WholeVisits.{WholeListsHoldAll};
@@ -105,6 +106,11 @@ pub fn visits_are_listed()
 /// One context stands for all visits of a key.
 pub fn keys_stand_for_visits()
     ensures { (s : Step) → KeysStandForVisits s }
+{}
+
+/// The test of two keys tells whether they are one.
+pub fn equal_keys_tell()
+    ensures { (k l : Key) → (key_eq k l ≡ true) ↔ (k ≡ l) }
 {}
 
 /// Worked examples: what the definitions give on small files.
