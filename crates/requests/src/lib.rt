@@ -17,6 +17,6 @@ mod walk;
 pub use fault::{AddFault, CheckFault};
 pub use fit::targets_fit_as_trees;
 pub use plan::Plan;
-pub use request::{Act, Request};
+pub use request::{Act, Request, Requests};
 pub use table::{RequestTable, tables_stand_for_steps};
 pub use walk::Walk;

@@ -2,6 +2,7 @@
 ghost use Rattle.std.specs.Prelude.{◌≡◌};
 ghost use Rattle.requests.specs.Numbered.{allows_at, is_plain};
 
+use lists::ListOf;
 use location_words::WordId;
 use orientation::Turn;
 use shape_pool::{NodeId, UseOf};
@@ -25,6 +26,9 @@ pub struct Request {
     pub turn: Option<Turn>,
     pub act: Act,
 }
+
+/// Requests in the order given.
+pub type Requests = ListOf<Request>;
 
 impl Request {
     /// Whether it is for all occurrences of its node: it has neither a place nor a turn.
