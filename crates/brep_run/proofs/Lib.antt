@@ -39,3 +39,4 @@ pub mod AnswerLaws
 pub mod CallCounts
 pub mod WritingLaws
 pub mod RelabelledTrees
+pub mod InputLaws

@@ -11,6 +11,14 @@ use Rattle.brep_run.specs.Copy.{Counts, HoldsFault, IsFileLimit}
 use Rattle.brep_run.specs.Rewrite.{HasMoreLines, given_for, location_count, most_script_bytes, most_script_lines}
 use Rattle.brep_run.specs.Script.{IsRefusedAt, unbuilt}
 
+-- why the bytes of a name are not read, given the limit on how many there may be
+abbrev pub IsBytesStop : Tells → Shown → List ℕ → LimitKind → ℕ → ℕ → ℕ → Outcome → Type 0
+IsBytesStop t old name kind most entry exit (outcomes.ReadDesk before after) = Counts entry exit before after
+IsBytesStop t old name kind most entry exit (outcomes.Limit which count) =
+    (which ≡ kind) × (count ≡ most + 1) × IsLonger t old name most
+IsBytesStop t old name kind most entry exit outcomes.NoMemory = Unit {0}
+IsBytesStop t old name kind most entry exit _ = ⊥
+
 -- why no file is read from the source
 abbrev pub IsInputStop : Tells → Shown → List ℕ → ℕ → ℕ → Outcome → Type 0
 IsInputStop t old source entry exit (outcomes.ReadDesk before after) = Counts entry exit before after

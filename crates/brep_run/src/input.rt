@@ -1,10 +1,10 @@
 //! Reads the inputs of a run: a file, and the script that goes with it.
-ghost use Rattle.std.specs.Prelude.{◌≡◌, ◌≤◌, All, IfErr, IfOk, IsTrue, OnOk, Some, length};
+ghost use Rattle.std.specs.Prelude.{◌≡◌, ◌≤◌, ◌<◌, ◌-◌, ◌^◌, All, IfErr, IfOk, IsTrue, OnOk, Some, length};
 ghost use Rattle.brep_desk.specs.Strays.{NoStrayOnHeld};
-ghost use Rattle.brep_desk.specs.Transfers.{NothingWritten, NoMoreOpen};
+ghost use Rattle.brep_desk.specs.Transfers.{IsAllHeld, NothingWritten, NoMoreOpen};
 ghost use Rattle.brep_desk.specs.WritingCalls.{KeepsWritingCalls};
 ghost use Rattle.brep_file.specs.Sound.{IsWithinLimits, IsSound};
-ghost use Rattle.brep_run.specs.Inputs.{IsInputStop, IsLinesStop, IsScriptStop};
+ghost use Rattle.brep_run.specs.Inputs.{IsBytesStop, IsInputStop, IsLinesStop, IsScriptStop};
 ghost use Rattle.brep_run.specs.Rewrite.{HoldsFile, HoldsScript, given_for, most_script_lines};
 ghost use Rattle.brep_run.specs.Script.{removals};
 ghost use Rattle.expansion_laws.specs.Expansion.{IsNumberOf};
@@ -35,6 +35,39 @@ pub(crate) struct Input {
     pub(crate) size: usize,
 }
 
+/// Reads all bytes that the name holds, which may be so many.
+fn read_bytes<D: Desk>(
+    alloc: Global,
+    desk: &mut D,
+    name: &str,
+    which: LimitKind,
+    most: u64,
+) -> Result<Vec<u8>, Outcome>
+    requires { most < 2 ^ 64 - 1 }
+    ensures later { D.faults desk.old ≤ D.faults desk.new }
+    ensures quiet { NothingWritten D.tells (D.shows desk.old) (D.shows desk.new) }
+    ensures writing_calls { KeepsWritingCalls D.tells (D.shows desk.old) (D.shows desk.new) }
+    ensures whole { IfOk result (λ bytes. IsAllHeld D.tells (D.shows desk.old) name.now most bytes.items) }
+    ensures stop { IfErr result (IsBytesStop D.tells (D.shows desk.old) name.now which most
+        (D.faults desk.old) (D.faults desk.new)) }
+    ensures closes { OnOk result (IsTrue D.tells.opened → NoMoreOpen (D.shows desk.old) (D.shows desk.new)) }
+    ensures strays { NoStrayOnHeld D.tells (D.shows desk.old) (D.shows desk.new) name.now }
+{
+    let before = desk.faults();
+    match read_all(alloc, desk, name, most) {
+        Ok(bytes) => Ok(bytes),
+        Err(ReadAll::Failed) => Err(Outcome::ReadDesk {
+            before,
+            after: desk.faults(),
+        }),
+        Err(ReadAll::TooLong) => Err(Outcome::Limit {
+            which,
+            count: most as u128 + 1,
+        }),
+        Err(ReadAll::NoMemory) => Err(Outcome::NoMemory),
+    }
+}
+
 /// Reads the file that the name holds. Its bytes are let go as soon as they are read.
 pub(crate) fn read_input<D: Desk>(
     alloc: Global,
@@ -53,23 +86,7 @@ pub(crate) fn read_input<D: Desk>(
     ensures strays { NoStrayOnHeld D.tells (D.shows desk.old) (D.shows desk.new) source.now }
 {
     reading_is_exact();
-    let before = desk.faults();
-    let bytes = match read_all(alloc, desk, source, FILE_BYTES) {
-        Ok(bytes) => bytes,
-        Err(ReadAll::Failed) => {
-            return Err(Outcome::ReadDesk {
-                before,
-                after: desk.faults(),
-            });
-        }
-        Err(ReadAll::TooLong) => {
-            return Err(Outcome::Limit {
-                which: LimitKind::FileBytes,
-                count: FILE_BYTES as u128 + 1,
-            });
-        }
-        Err(ReadAll::NoMemory) => return Err(Outcome::NoMemory),
-    };
+    let bytes = read_bytes(alloc, desk, source, LimitKind::FileBytes, FILE_BYTES)?;
     let size = bytes.len();
     match read_file(alloc, bytes) {
         Ok(file) => Ok(Input { file, size }),
@@ -94,23 +111,7 @@ pub(crate) fn read_script<D: Desk>(
     ensures closes { OnOk result (IsTrue D.tells.opened → NoMoreOpen (D.shows desk.old) (D.shows desk.new)) }
     ensures strays { NoStrayOnHeld D.tells (D.shows desk.old) (D.shows desk.new) script.now }
 {
-    let before = desk.faults();
-    let lines = match read_all(alloc, desk, script, SCRIPT_BYTES) {
-        Ok(lines) => lines,
-        Err(ReadAll::Failed) => {
-            return Err(Outcome::ReadDesk {
-                before,
-                after: desk.faults(),
-            });
-        }
-        Err(ReadAll::TooLong) => {
-            return Err(Outcome::Limit {
-                which: LimitKind::ScriptBytes,
-                count: SCRIPT_BYTES as u128 + 1,
-            });
-        }
-        Err(ReadAll::NoMemory) => return Err(Outcome::NoMemory),
-    };
+    let lines = read_bytes(alloc, desk, script, LimitKind::ScriptBytes, SCRIPT_BYTES)?;
     if line_count(&lines) > SCRIPT_LINES {
         return Err(Outcome::Limit {
             which: LimitKind::ScriptLines,
