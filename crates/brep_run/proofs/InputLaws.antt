@@ -1,5 +1,5 @@
 -- Why bytes are not read is why no file and no script is.
-use Rattle.std.proofs.Common.{sym, subst, tt}
+use Rattle.std.proofs.Common.{sym, subst}
 use Rattle.std.specs.Prelude.{ℕ, List}
 use Rattle.brep_desk.specs.Shown.{Shown, Tells}
 use Rattle.brep_run.specs.declared.outcome.Outcome.{Outcome}

@@ -12,16 +12,16 @@ returns-in_err-bytes-clause-stop g c =
     (input-stop g.D.Desk.tells (g.D.Desk.shows c.args.desk.now) c.args.source.now (g.D.Desk.faults c.args.desk.now)
     (g.D.Desk.faults c.read_bytes.new.desk) c.in_err-bytes.field-0.0 c.in_err-bytes.ensures.stop)
 
-pub returns-in-Ok-read_file-clause-read : goal.returns-in-Ok-read_file-clause-read
-returns-in-Ok-read_file-clause-read g c = λ told. record {
+pub returns-in-Ok-clause-read : goal.returns-in-Ok-clause-read
+returns-in-Ok-clause-read g c = λ told. record {
   bytes = c.in_ok-bytes.bytes.items;
   holds = record { held = c.in_ok-bytes.ensures.whole.1 told; few = c.in_ok-bytes.ensures.whole.0 };
-  reads = reads-of c.reading_is_exact.ensures _ _ c.in-Ok-read_file.ensures;
+  reads = reads-of c.reading_is_exact.ensures _ _ c.in-Ok.ensures;
 }
 
-pub returns-in-Ok-read_file-clause-sound : goal.returns-in-Ok-read_file-clause-sound
-returns-in-Ok-read_file-clause-sound g c =
-    (reads-of c.reading_is_exact.ensures _ _ c.in-Ok-read_file.ensures).spells.sound
+pub returns-in-Ok-clause-sound : goal.returns-in-Ok-clause-sound
+returns-in-Ok-clause-sound g c =
+    (reads-of c.reading_is_exact.ensures _ _ c.in-Ok.ensures).spells.sound
 
-pub returns-in-Ok-read_file-clause-small : goal.returns-in-Ok-read_file-clause-small
-returns-in-Ok-read_file-clause-small g c = (reads-of c.reading_is_exact.ensures _ _ c.in-Ok-read_file.ensures).small
+pub returns-in-Ok-clause-small : goal.returns-in-Ok-clause-small
+returns-in-Ok-clause-small g c = (reads-of c.reading_is_exact.ensures _ _ c.in-Ok.ensures).small
