@@ -1,0 +1,7 @@
+pub mod WalkLaws
+pub mod FirstLaws
+pub mod MarkLemmas
+pub mod TrailLemmas
+pub mod WayLemmas
+pub mod NextLemmas
+pub mod GoLemmas

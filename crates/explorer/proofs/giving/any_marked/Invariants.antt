@@ -1,0 +1,11 @@
+-- The uses so far are of unmarked nodes.
+use Rattle.std.proofs.Common.{◌≡◌, drop}
+use Rattle.std.specs.List.{list_any}
+use Rattle.shape_pool.specs.Rows.{uses_at}
+use Rattle.explorer.specs.Levels.{is_marked}
+use Rattle.explorer.proofs.giving.any_marked.Given as goal
+
+abbrev pub invariant-loop-i : goal.invariant-loop-i
+invariant-loop-i l =
+    list_any (is_marked l.marks) (uses_at l.pool l.id.0) ≡
+    list_any (is_marked l.marks) (drop l.i (uses_at l.pool l.id.0))

@@ -1,0 +1,13 @@
+//! Laws of walks, each the contract of a function that does nothing.
+ghost use Rattle.explorer.specs.Walks.{WalkIsEntered};
+ghost use Rattle.explorer.specs.Going.{FirstsAreTold};
+
+/// What is entered and is of the kind sought is the walk.
+pub fn walk_is_entered()
+    ensures { WalkIsEntered }
+{}
+
+/// What comes first of occurrences is wanted or past a limit, and those before it are within the limits and not wanted.
+pub fn firsts_are_told()
+    ensures { FirstsAreTold }
+{}
