@@ -120,6 +120,13 @@ pub record IsOf (g : Going) (table : List (List Pair)) (rows : List Row) (find a
 abbrev pub GoesOn : Going → Going → Type 0
 GoesOn old new = IsOf new old.table old.rows old.find old.avoid
 
+-- at its beginning everything is left, whatever kinds the origins have that agree with the nodes'
+abbrev pub BeginsAt : List (List Pair) → List Row → UseOf → Option Kind → Option Kind → Going → Type 0
+BeginsAt table rows root find avoid g =
+    (kind : ℕ → Kind) → HaveKinds rows kind →
+    left kind g ≡
+    entered kind find avoid (a_context root.turn (word_in table root.place.0)) (tree_at (word_in table) rows root.id.0)
+
 -- what is told of a word that was refused, and of the last occurrence where none is given
 abbrev pub IsTold : Going → Going → Result (Option Found) WordLimit → Type 0
 IsTold old new (Ok (Some f)) = new.limit ≡ None

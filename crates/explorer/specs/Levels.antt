@@ -1,15 +1,18 @@
 -- The nodes that are entered, from the outermost to the innermost, and what is still to come of them.
 use Rattle.std.specs.Prelude.{◌≡◌, ℕ, ◌+◌, ◌<◌, ◌≤◌, Bool, true, false, List, [], ◌∷◌, ◌++◌, map, drop, fold, length}
 use Rattle.std.specs.List.{filter}
-use Rattle.std.specs.Prelude.{Option, None, Some, option_to_list, slice_get, slice_index_or}
+use Rattle.std.specs.Prelude.{Result, Option, None, Some, option_to_list, slice_get, slice_index_or}
 use Rattle.orientation.specs.declared.kind.Kind.{Kind}
 use Rattle.location_words.specs.declared.pair.Pair.{Pair}
+use Rattle.location_words.specs.Pairs.{most_pairs}
 use Rattle.expansion_laws.specs.Contexts.{Context, at_root}
 use Rattle.shape_pool.specs.declared.node.NodeId.{NodeId}
 use Rattle.shape_pool.specs.declared.node.UseOf.{UseOf}
 use Rattle.shape_pool.specs.Rows.{Row, depth_at, tree_at, uses_at, HasPlaces}
-use Rattle.explorer.specs.Walks.{gives}
-use Rattle.explorer.specs.Going.{Place, a_place, HaveKinds}
+use Rattle.explorer.specs.declared.found.Found.{Found}
+use Rattle.explorer.specs.declared.found.WordLimit.{WordLimit}
+use Rattle.explorer.specs.Walks.{gives, is_wanted}
+use Rattle.explorer.specs.Going.{Going, Place, a_place, entered_at_all, first_of, HaveKinds, IsAnswer}
 
 -- a node that is entered: its number, how many of its uses are gone through, and its accumulated turn and word
 pub record Entered : Type 0 where
@@ -55,6 +58,11 @@ AreMarks rows find avoid marks =
     (word : ℕ → List Pair) (kind : ℕ → Kind) → HaveKinds rows kind → (i : ℕ) → i < length marks →
     slice_get marks i ≡ Some (gives kind find avoid (tree_at word rows i))
 
+-- the mark of a number is that of its tree
+abbrev pub IsMark : List Row → Option Kind → Option Kind → ℕ → Bool → Type 0
+IsMark rows find avoid i mark =
+    (word : ℕ → List Pair) (kind : ℕ → Kind) → HaveKinds rows kind → mark ≡ gives kind find avoid (tree_at word rows i)
+
 -- ---- What is always so.
 -- from a place on, each node has a number below n, and there is room for all that is below it
 abbrev pub AreLevels : List Row → ℕ → ℕ → ℕ → List Entered → Type 0
@@ -82,6 +90,36 @@ pub record IsOnItsWay (table : List (List Pair)) (rows : List Row) (marks : List
   pub places : HasPlaces rows (length table)
   pub start_placed : IsStartPlaced (length table) start
   pub way : IsWay rows (length marks) start path
+
+-- an explorer, with marks for these kinds and so much room for the last word
+abbrev pub IsExplorer : List (List Pair) → List Row → Option Kind → Option Kind → List Bool → Option UseOf → Path → ℕ →
+    Type 0
+IsExplorer table rows find avoid marks start path room =
+    IsOnItsWay table rows marks start path × AreMarks rows find avoid marks × (most_pairs ≤ room)
+
+-- what an explorer stands for
+abbrev pub going_of : List (List Pair) → List Row → Option Kind → Option Kind → Option UseOf → Path → List Pair →
+    Option WordLimit → Going
+going_of table rows find avoid start path last limit = record {
+  table = table;
+  rows = rows;
+  find = find;
+  avoid = avoid;
+  coming = coming_of rows start path.levels;
+  last = last;
+  limit = limit;
+}
+
+-- what comes first on the way is answered, whatever kinds the origins have that agree with the nodes', and whatever kind
+-- is avoided for which the marks are right
+abbrev pub AnswersOnWay : List (List Pair) → List Row → Option Kind → List Bool → Option UseOf → Path → Option UseOf →
+    Path → Result (Option Found) WordLimit → Type 0
+AnswersOnWay table rows find marks start path start' path' r =
+    (kind : ℕ → Kind) → HaveKinds rows kind → (avoid : Option Kind) → AreMarks rows find avoid marks →
+    IsAnswer table rows
+    (first_of (is_wanted kind find)
+    (entered_at_all table rows kind find avoid (coming_of rows start path.levels))) r (innermost path'.levels).word
+    (entered_at_all table rows kind find avoid (coming_of rows start' path'.levels))
 
 -- ---- The next use of one that is marked.
 -- it is the first such use of a list from a place on

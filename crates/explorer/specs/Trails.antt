@@ -1,7 +1,9 @@
 -- Nodes that are entered, as a trail holds them, with room for the words of those that will be.
-use Rattle.std.specs.Prelude.{◌≡◌, ℕ, ◌+◌, ◌≤◌, List, [], ◌∷◌, ◌++◌, map, length, All, Vec, vec_capacity}
+use Rattle.std.specs.Prelude.{◌≡◌, ℕ, ◌+◌, ◌≤◌, List, [], ◌∷◌, ◌++◌, map, length, All, Option, Vec, vec_capacity}
 use Rattle.std.specs.declared.alloc.Global.{Global}
 use Rattle.location_words.specs.declared.pair.Pair.{Pair}
+use Rattle.location_words.specs.declared.fault.WordFault.{WordFault}
+use Rattle.location_words.specs.Faults.{fault_of}
 use Rattle.location_words.specs.Pairs.{most_pairs, IsHeldWord}
 use Rattle.expansion_laws.specs.Contexts.{Context, inside}
 use Rattle.expansion_laws.specs.Trees.{a_single, tree_of}
@@ -22,7 +24,8 @@ abbrev pub path_of : List Level → List (Vec Pair Global) → Path
 path_of levels spare = record { levels = map entered_of levels; deep = length levels + length spare }
 
 -- the words are within the limits, and there is room for the greatest word at each level that is or will be entered
-pub record HasRoom (levels : List Level) (levels_room : ℕ) (spare : List (Vec Pair Global)) (spare_room : ℕ) : Type 0 where
+pub record HasRoom (levels : List Level) (levels_room : ℕ) (spare : List (Vec Pair Global)) (spare_room : ℕ)
+    : Type 0 where
   pub words : All (λ (l : Level). IsHeldWord l.word.items) levels
   pub rooms : All (λ (l : Level). most_pairs ≤ vec_capacity l.word) levels
   pub spare_rooms : All (λ (r : Vec Pair Global). most_pairs ≤ vec_capacity r) spare
@@ -48,3 +51,11 @@ IsLeft old new = (before : List Entered) (e : Entered) → old ≡ before ++ e �
 -- the accumulated turn and word of a use in a context, by the words of a table
 abbrev pub below : List (List Pair) → Context → UseOf → Context
 below table here u = inside here (a_single u.turn (word_in table u.place.0) (tree_of 0 []))
+
+-- the node of a use is entered below the innermost one
+abbrev pub Enters : List (List Pair) → List Entered → UseOf → List Entered → Type 0
+Enters table old u new = new ≡ old ++ an_entered u.id 0 (below table (innermost old) u) ∷ []
+
+-- why the accumulated word of such a use is no word
+abbrev pub fault_below : List (List Pair) → List Entered → UseOf → Option WordFault
+fault_below table old u = fault_of (below table (innermost old) u).word

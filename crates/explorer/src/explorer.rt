@@ -1,12 +1,8 @@
 //! The explorer.
-ghost use Rattle.std.specs.Prelude.{◌≡◌, ◌<◌, ◌≤◌, ℕ, [], None, Option, length, vec_capacity, IfOk};
-ghost use Rattle.orientation.specs.declared.kind.Kind.{Kind as AKind};
-ghost use Rattle.shape_pool.specs.Laws.{word_in};
-ghost use Rattle.shape_pool.specs.Rows.{tree_at, HasPlaces};
-ghost use Rattle.explorer.specs.Walks.{entered, is_wanted};
-ghost use Rattle.explorer.specs.Going.{a_context, entered_at_all, first_of, left};
-ghost use Rattle.explorer.specs.Going.{Answers, GoesOn, HaveKinds, IsAnswer, IsOf, IsTold};
-ghost use Rattle.explorer.specs.Levels.{coming_of, innermost, AreMarks, IsOnItsWay};
+ghost use Rattle.std.specs.Prelude.{◌≡◌, ◌<◌, ◌≤◌, [], None, length, vec_capacity, IfOk};
+ghost use Rattle.shape_pool.specs.Rows.{HasPlaces};
+ghost use Rattle.explorer.specs.Going.{Answers, BeginsAt, GoesOn, IsOf, IsTold};
+ghost use Rattle.explorer.specs.Levels.{AnswersOnWay, IsOnItsWay};
 
 use crate::entering::next_use;
 use crate::found::{Found, WordLimit, limit_of};
@@ -35,16 +31,15 @@ pub struct Explorer<'a> {
 }
 
 impl<'a> Model for Explorer<'a> {
-    ghost use Rattle.std.specs.Prelude.{◌≤◌, vec_capacity};
-    ghost use Rattle.location_words.specs.Pairs.{most_pairs};
+    ghost use Rattle.std.specs.Prelude.{vec_capacity};
     ghost use Rattle.explorer.specs.Going.{Going};
-    ghost use Rattle.explorer.specs.Levels.{coming_of, AreMarks, IsOnItsWay};
+    ghost use Rattle.explorer.specs.Levels.{going_of, IsExplorer};
 
     ghost Value = { Going };
 
-    ghost view = { λ e. record { table = e.words.now; rows = e.pool.now; find = e.find; avoid = e.avoid; coming = coming_of e.pool.now e.start e.trail.levels; last = e.last.items; limit = e.limit } };
+    ghost view = { λ e. going_of e.words.now e.pool.now e.find e.avoid e.start e.trail e.last.items e.limit };
 
-    ghost invariant = { λ e. IsOnItsWay e.words.now e.pool.now e.marks.items e.start e.trail × AreMarks e.pool.now e.find e.avoid e.marks.items × (most_pairs ≤ vec_capacity e.last) };
+    ghost invariant = { λ e. IsExplorer e.words.now e.pool.now e.find e.avoid e.marks.items e.start e.trail (vec_capacity e.last) };
 }
 
 /// What comes first of what is still to come.
@@ -57,7 +52,7 @@ fn go_on(
     trail: &mut Trail,
 ) -> Result<Option<Found>, WordLimit>
     requires { IsOnItsWay words.now pool.now marks.now start.old trail.old }
-    ensures answer { (kind : ℕ → AKind) → HaveKinds pool.now kind → (avoid : Option AKind) → AreMarks pool.now find avoid marks.now → IsAnswer words.now pool.now (first_of (is_wanted kind find) (entered_at_all words.now pool.now kind find avoid (coming_of pool.now start.old trail.old.levels))) result (innermost trail.new.levels).word (entered_at_all words.now pool.now kind find avoid (coming_of pool.now start.new trail.new.levels)) }
+    ensures answer { AnswersOnWay words.now pool.now find marks.now start.old trail.old start.new trail.new result }
     ensures way { IsOnItsWay words.now pool.now marks.now start.new trail.new }
 {
     pool.laws();
@@ -101,7 +96,7 @@ impl<'a> Explorer<'a> {
         requires root { root.id.0 < length pool.now }
         requires place { root.place.0 < length words.now }
         requires places { HasPlaces pool.now (length words.now) }
-        ensures left { IfOk result (λ e. (kind : ℕ → AKind) → HaveKinds pool.now kind → left kind e ≡ entered kind find avoid (a_context root.turn (word_in words.now root.place.0)) (tree_at (word_in words.now) pool.now root.id.0)) }
+        ensures left { IfOk result (BeginsAt words.now pool.now root find avoid) }
         ensures of { IfOk result (λ e. IsOf e words.now pool.now find avoid) }
         ensures last { IfOk result (λ e. e.last ≡ []) }
         ensures limit { IfOk result (λ e. e.limit ≡ None) }

@@ -1,12 +1,9 @@
 //! Which nodes have an occurrence to give.
-ghost use Rattle.std.specs.Prelude.{◌≡◌, ◌<◌, ◌≤◌, ◌+◌, ℕ, List, Some, length, slice_get, IfOk};
+ghost use Rattle.std.specs.Prelude.{◌≡◌, ◌<◌, ◌≤◌, ◌+◌, Some, length, slice_get, IfOk};
 ghost use Rattle.std.specs.List.{list_any};
-ghost use Rattle.orientation.specs.declared.kind.Kind.{Kind as AKind};
-ghost use Rattle.location_words.specs.declared.pair.Pair.{Pair};
-ghost use Rattle.shape_pool.specs.Rows.{tree_at, uses_at};
-ghost use Rattle.explorer.specs.Walks.{gives, is_avoided as is_avoided_by, is_sought as is_sought_by};
-ghost use Rattle.explorer.specs.Going.{HaveKinds};
-ghost use Rattle.explorer.specs.Levels.{is_marked, AreMarks};
+ghost use Rattle.shape_pool.specs.Rows.{uses_at};
+ghost use Rattle.explorer.specs.Walks.{is_avoided as is_avoided_by, is_sought as is_sought_by};
+ghost use Rattle.explorer.specs.Levels.{is_marked, AreMarks, IsMark};
 
 use orientation::Kind;
 use shape_pool::{NodeId, Pool, UseOf};
@@ -75,7 +72,7 @@ fn has_one(pool: &Pool, marks: &[bool], id: NodeId, find: Option<Kind>, avoid: O
     requires id { id.0 < length pool.now }
     requires before { id.0 ≤ length marks.now }
     requires marks { AreMarks pool.now find avoid marks.now }
-    ensures { (word : ℕ → List Pair) (kind : ℕ → AKind) → HaveKinds pool.now kind → result ≡ gives kind find avoid (tree_at word pool.now id.0) }
+    ensures { IsMark pool.now find avoid id.0 result }
 {
     pool.laws();
     let kind = pool.kind(id);

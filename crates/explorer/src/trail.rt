@@ -1,11 +1,10 @@
 //! The nodes that are entered, with room for as many as may be.
-ghost use Rattle.std.specs.Prelude.{◌≡◌, ◌<◌, ◌≤◌, ◌++◌, ◌∷◌, [], None, Some, length, map, vec_capacity};
+ghost use Rattle.std.specs.Prelude.{◌≡◌, ◌<◌, ◌≤◌, [], None, Some, length, map, vec_capacity};
 ghost use Rattle.std.specs.Prelude.{IfErr, IfNone, IfOk, IfSome, OnErr, OnOk, All};
-ghost use Rattle.location_words.specs.Faults.{fault_of};
 ghost use Rattle.location_words.specs.Pairs.{IsHeldWord};
 ghost use Rattle.explorer.specs.declared.trail.Level.{Level as ALevel};
-ghost use Rattle.explorer.specs.Levels.{an_entered, innermost};
-ghost use Rattle.explorer.specs.Trails.{below, entered_of, HaveRoom, IsInnermost, IsLeft, IsPast};
+ghost use Rattle.explorer.specs.Levels.{innermost};
+ghost use Rattle.explorer.specs.Trails.{entered_of, fault_below, Enters, HaveRoom, IsInnermost, IsLeft, IsPast};
 
 use location_words::{MOST_PAIRS, Pair, WordFault, Words, mul_into};
 use orientation::{Turn, compose};
@@ -140,9 +139,9 @@ impl Trail {
     pub(crate) fn enter(&mut self, words: &Words, one: UseOf) -> Result<(), WordFault>
         requires room { length self.old.levels < self.old.deep }
         requires place { one.place.0 < length words.now }
-        ensures ok { OnOk result (self.new.levels ≡ self.old.levels ++ an_entered one.id 0 (below words.now (innermost self.old.levels) one) ∷ []) }
-        ensures within { OnOk result (fault_of (below words.now (innermost self.old.levels) one).word ≡ None) }
-        ensures refused { IfErr result (λ fault. fault_of (below words.now (innermost self.old.levels) one).word ≡ Some fault) }
+        ensures ok { OnOk result (Enters words.now self.old.levels one self.new.levels) }
+        ensures within { OnOk result (fault_below words.now self.old.levels one ≡ None) }
+        ensures refused { IfErr result (λ fault. fault_below words.now self.old.levels one ≡ Some fault) }
         ensures err { OnErr result (self.new.levels ≡ self.old.levels) }
         ensures deep { self.new.deep ≡ self.old.deep }
     {
