@@ -1,5 +1,6 @@
 -- The innermost level of a trail.
-use Rattle.std.proofs.Common.{◌≡◌, ◌∙◌, ◌<◌, ◌-◌, ◌+◌, refl, ap, sym, subst, arith, ℕ, zero, suc, List, [], ◌∷◌, ◌++◌, map, length}
+use Rattle.std.proofs.Common.{◌≡◌, ◌∙◌, ◌<◌, ◌-◌, ◌+◌, refl, ap, sym, subst}
+use Rattle.std.proofs.Common.{arith, ℕ, zero, suc, List, [], ◌∷◌, ◌++◌, map, length}
 use Rattle.std.proofs.Common.{Some, slice_get, take}
 use Rattle.std.proofs.lemmas.List.{map-append}
 use Rattle.std.proofs.lemmas.List.Sums.{fold-append}

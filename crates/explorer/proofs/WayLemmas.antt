@@ -26,7 +26,8 @@ use Rattle.shape_pool.specs.Laws.{word_in, IsSound}
 use Rattle.explorer.specs.Walks.{Occurrence, an_occurrence, gives, entered, entered_below}
 use Rattle.explorer.specs.Going.{Place, a_context, a_place, HaveKinds, entered_at, entered_at_all}
 use Rattle.explorer.specs.Levels.{Entered, an_entered, Path, innermost, places, coming_below, coming_of}
-use Rattle.explorer.specs.Levels.{is_marked, is_marked_place, AreMarks, AreLevels, IsNextOnWay, IsNextUse, IsStart, IsWay}
+use Rattle.explorer.specs.Levels.{is_marked, is_marked_place, AreMarks, AreLevels}
+use Rattle.explorer.specs.Levels.{IsNextOnWay, IsNextUse, IsStart, IsWay}
 use Rattle.explorer.specs.Trails.{below}
 use Rattle.explorer.proofs.MarkLemmas.{mark-is}
 use Rattle.explorer.proofs.TrailLemmas.{innermost-last}
@@ -278,7 +279,8 @@ module _ (table : List (List Pair)) (rows : List Row) where
       let rest = filter (is_marked_place marks) coming in
       let own = filter (is_marked_place marks) (places h (uses_at rows u.id.0)) in
       let a : weight (filter (is_marked_place marks) old) ≡ suc (use_count x) + weight rest = ap weight next in
-      let b : weight (filter (is_marked_place marks) (places h (uses_at rows u.id.0) ++ coming)) ≡ weight (own ++ rest) =
+      let b : weight (filter (is_marked_place marks) (places h (uses_at rows u.id.0) ++ coming)) ≡
+      weight (own ++ rest) =
       ap weight (filter-append (is_marked_place marks) (places h (uses_at rows u.id.0)) coming) in
       let c = weight-append own rest in
       let d = weight-places marks h (uses_at rows u.id.0) in

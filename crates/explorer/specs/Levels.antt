@@ -1,7 +1,8 @@
 -- The nodes that are entered, from the outermost to the innermost, and what is still to come of them.
 use Rattle.std.specs.Prelude.{◌≡◌, ℕ, ◌+◌, ◌<◌, ◌≤◌, Bool, true, false, List, [], ◌∷◌, ◌++◌, map, drop, fold, length}
 use Rattle.std.specs.List.{filter}
-use Rattle.std.specs.Prelude.{Result, Option, None, Some, option_to_list, slice_get, slice_index_or}
+use Rattle.std.specs.declared.alloc.Global.{Global}
+use Rattle.std.specs.Prelude.{Result, Vec, vec_capacity, Option, None, Some, option_to_list, slice_get, slice_index_or}
 use Rattle.orientation.specs.declared.kind.Kind.{Kind}
 use Rattle.location_words.specs.declared.pair.Pair.{Pair}
 use Rattle.location_words.specs.Pairs.{most_pairs}
@@ -91,11 +92,11 @@ pub record IsOnItsWay (table : List (List Pair)) (rows : List Row) (marks : List
   pub start_placed : IsStartPlaced (length table) start
   pub way : IsWay rows (length marks) start path
 
--- an explorer, with marks for these kinds and so much room for the last word
-abbrev pub IsExplorer : List (List Pair) → List Row → Option Kind → Option Kind → List Bool → Option UseOf → Path → ℕ →
-    Type 0
-IsExplorer table rows find avoid marks start path room =
-    IsOnItsWay table rows marks start path × AreMarks rows find avoid marks × (most_pairs ≤ room)
+-- an explorer, with marks for these kinds and room for the greatest word
+abbrev pub IsExplorer : List (List Pair) → List Row → Option Kind → Option Kind → List Bool → Option UseOf → Path →
+    Vec Pair Global → Type 0
+IsExplorer table rows find avoid marks start path last =
+    IsOnItsWay table rows marks start path × AreMarks rows find avoid marks × (most_pairs ≤ vec_capacity last)
 
 -- what an explorer stands for
 abbrev pub going_of : List (List Pair) → List Row → Option Kind → Option Kind → Option UseOf → Path → List Pair →
@@ -110,8 +111,8 @@ going_of table rows find avoid start path last limit = record {
   limit = limit;
 }
 
--- what comes first on the way is answered, whatever kinds the origins have that agree with the nodes', and whatever kind
--- is avoided for which the marks are right
+-- what comes first on the way is answered, whatever kinds the origins have that agree with the nodes', and whatever
+-- kind is avoided for which the marks are right
 abbrev pub AnswersOnWay : List (List Pair) → List Row → Option Kind → List Bool → Option UseOf → Path → Option UseOf →
     Path → Result (Option Found) WordLimit → Type 0
 AnswersOnWay table rows find marks start path start' path' r =

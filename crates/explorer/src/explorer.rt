@@ -31,7 +31,6 @@ pub struct Explorer<'a> {
 }
 
 impl<'a> Model for Explorer<'a> {
-    ghost use Rattle.std.specs.Prelude.{vec_capacity};
     ghost use Rattle.explorer.specs.Going.{Going};
     ghost use Rattle.explorer.specs.Levels.{going_of, IsExplorer};
 
@@ -39,7 +38,7 @@ impl<'a> Model for Explorer<'a> {
 
     ghost view = { λ e. going_of e.words.now e.pool.now e.find e.avoid e.start e.trail e.last.items e.limit };
 
-    ghost invariant = { λ e. IsExplorer e.words.now e.pool.now e.find e.avoid e.marks.items e.start e.trail (vec_capacity e.last) };
+    ghost invariant = { λ e. IsExplorer e.words.now e.pool.now e.find e.avoid e.marks.items e.start e.trail e.last };
 }
 
 /// What comes first of what is still to come.

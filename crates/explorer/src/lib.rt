@@ -1,4 +1,5 @@
-//! The occurrences of an expansion, one after another: those of a kind, neither of a kind that is avoided nor below one.
+//! The occurrences of an expansion, one after another: those of a kind, neither of a kind that is avoided nor below
+//! one.
 #![tactic(auto)]
 
 mod entering;

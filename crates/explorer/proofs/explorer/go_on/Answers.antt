@@ -20,7 +20,8 @@ returns-in-Err-clause-answer c = λ kind kinds avoid are.
     (coming_of c.args.pool.now c.args.start.now c.args.trail.now.levels)))
     (limit_of c.in-Err.fault) c.limit_of.result
     (c.loop-one.invariant.first kind kinds avoid are ∙
-    go-past c.args.words.now c.args.pool.now c.laws.ensures c.args.marks.now c.loop-one.start c.next_use.new.start c.loop-one.trail
+    go-past c.args.words.now c.args.pool.now c.laws.ensures c.args.marks.now c.loop-one.start c.next_use.new.start
+    c.loop-one.trail
     c.next_use.new.trail c.in-Some.one c.in-Some.ensures.some c.loop-one.invariant.way c.in-Some.ensures.way
     c.enter.new.self
     c.in-Err.ensures.deep kind kinds c.args.find avoid are c.in-Err.fault c.in-Err.ensures.refused)
@@ -28,7 +29,8 @@ returns-in-Err-clause-answer c = λ kind kinds avoid are.
 
 pub returns-in-Err-clause-way : goal.returns-in-Err-clause-way
 returns-in-Err-clause-way c =
-    way-refused c.args.words.now c.args.pool.now c.laws.ensures c.args.marks.now c.loop-one.start c.next_use.new.start c.loop-one.trail
+    way-refused c.args.words.now c.args.pool.now c.laws.ensures c.args.marks.now c.loop-one.start
+    c.next_use.new.start c.loop-one.trail
     c.next_use.new.trail c.in-Some.one c.in-Some.ensures.some c.loop-one.invariant.way c.in-Some.ensures.way
     c.enter.new.self
     c.in-Err.ensures.deep c.in-Err.ensures.err
@@ -48,11 +50,13 @@ returns-then-is_sought-clause-answer c = λ kind kinds avoid are.
     (coming_of c.args.pool.now c.next_use.new.start c.enter.new.self.levels))
     (record { turn = c.turn.result; id = c.in-Some.one.id })
     (c.loop-one.invariant.first kind kinds avoid are ∙
-    go-found c.args.words.now c.args.pool.now c.laws.ensures c.args.marks.now c.loop-one.start c.next_use.new.start c.loop-one.trail
+    go-found c.args.words.now c.args.pool.now c.laws.ensures c.args.marks.now c.loop-one.start c.next_use.new.start
+    c.loop-one.trail
     c.next_use.new.trail c.in-Some.one c.in-Some.ensures.some c.loop-one.invariant.way c.in-Some.ensures.way
     c.enter.new.self
     c.in-Ok.ensures.deep c.in-Ok.ensures.ok kind kinds c.args.find avoid are c.in-Ok.ensures.within sought)
-    (is-given c.args.words.now c.args.pool.now c.laws.ensures c.args.marks.now c.loop-one.start c.next_use.new.start c.loop-one.trail
+    (is-given c.args.words.now c.args.pool.now c.laws.ensures c.args.marks.now c.loop-one.start
+    c.next_use.new.start c.loop-one.trail
     c.next_use.new.trail c.in-Some.one c.in-Some.ensures.some c.loop-one.invariant.way c.in-Some.ensures.way
     c.enter.new.self
     c.in-Ok.ensures.deep c.in-Ok.ensures.ok (record { turn = c.turn.result; id = c.in-Some.one.id }) c.turn.ensures
@@ -61,7 +65,8 @@ returns-then-is_sought-clause-answer c = λ kind kinds avoid are.
 
 pub returns-then-is_sought-clause-way : goal.returns-then-is_sought-clause-way
 returns-then-is_sought-clause-way c =
-    way-entered c.args.words.now c.args.pool.now c.laws.ensures c.args.marks.now c.loop-one.start c.next_use.new.start c.loop-one.trail
+    way-entered c.args.words.now c.args.pool.now c.laws.ensures c.args.marks.now c.loop-one.start
+    c.next_use.new.start c.loop-one.trail
     c.next_use.new.trail c.in-Some.one c.in-Some.ensures.some c.loop-one.invariant.way c.in-Some.ensures.way
     c.enter.new.self
     c.in-Ok.ensures.deep c.in-Ok.ensures.ok
@@ -75,7 +80,8 @@ loop-one-smaller c =
 pub loop-one-preserved : goal.loop-one-preserved
 loop-one-preserved c = record {
   way =
-      way-entered c.args.words.now c.args.pool.now c.laws.ensures c.args.marks.now c.loop-one.start c.next_use.new.start c.loop-one.trail
+      way-entered c.args.words.now c.args.pool.now c.laws.ensures c.args.marks.now c.loop-one.start
+      c.next_use.new.start c.loop-one.trail
       c.next_use.new.trail c.in-Some.one c.in-Some.ensures.some c.loop-one.invariant.way c.in-Some.ensures.way
       c.enter.new.self
       c.in-Ok.ensures.deep c.in-Ok.ensures.ok;
@@ -83,7 +89,8 @@ loop-one-preserved c = record {
       let not_sought : is_sought c.args.find (kind_at c.args.pool.now c.in-Some.one.id.0) ≡ false =
       ap (is_sought c.args.find) (sym c.kind.ensures) ∙ sym c.is_sought.ensures ∙ c.if-is_sought.false in
       c.loop-one.invariant.first kind kinds avoid are ∙
-      go-passed c.args.words.now c.args.pool.now c.laws.ensures c.args.marks.now c.loop-one.start c.next_use.new.start c.loop-one.trail
+      go-passed c.args.words.now c.args.pool.now c.laws.ensures c.args.marks.now c.loop-one.start
+      c.next_use.new.start c.loop-one.trail
       c.next_use.new.trail c.in-Some.one c.in-Some.ensures.some c.loop-one.invariant.way c.in-Some.ensures.way
       c.enter.new.self
       c.in-Ok.ensures.deep c.in-Ok.ensures.ok kind kinds c.args.find avoid are c.in-Ok.ensures.within not_sought;
