@@ -14,7 +14,8 @@ use Rattle.shape_pool.specs.Laws.{word_in, IsSound}
 use Rattle.explorer.specs.declared.found.Found.{Found}
 use Rattle.explorer.specs.declared.found.WordLimit.{WordLimit}
 use Rattle.explorer.specs.Walks.{Occurrence, an_occurrence, is_sought, is_wanted}
-use Rattle.explorer.specs.Going.{Coming, found, past, over, first_of, limit_of, HaveKinds, entered_at_all}
+use Rattle.shape_pool.specs.Rows.{HaveKinds}
+use Rattle.explorer.specs.Going.{Coming, found, past, over, first_of, limit_of, entered_at_all}
 use Rattle.explorer.specs.Going.{IsAnswer, IsGiven}
 use Rattle.explorer.specs.Levels.{an_entered, Path, innermost, coming_of, AreMarks}
 use Rattle.explorer.specs.Levels.{AreLevels, IsEndOfWay, IsNextOnWay, IsOnItsWay, IsWay}

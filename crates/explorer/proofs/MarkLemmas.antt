@@ -15,7 +15,7 @@ use Rattle.shape_pool.specs.declared.node.UseOf.{UseOf}
 use Rattle.shape_pool.specs.Rows.{Row, kind_at, origin_at, uses_at, use_by, tree_at}
 use Rattle.shape_pool.specs.Laws.{IsSound}
 use Rattle.explorer.specs.Walks.{is_avoided, is_sought, gives, any_gives}
-use Rattle.explorer.specs.Going.{HaveKinds}
+use Rattle.shape_pool.specs.Rows.{HaveKinds}
 use Rattle.explorer.specs.Levels.{is_marked, AreMarks}
 
 -- ---- one use more

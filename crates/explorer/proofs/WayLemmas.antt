@@ -24,7 +24,8 @@ use Rattle.shape_pool.specs.declared.node.UseOf.{UseOf}
 use Rattle.shape_pool.specs.Rows.{Row, depth_at, depth_over, greatest, origin_at, uses_at, use_by, tree_at, HasPlaces}
 use Rattle.shape_pool.specs.Laws.{word_in, IsSound}
 use Rattle.explorer.specs.Walks.{Occurrence, an_occurrence, gives, entered, entered_below}
-use Rattle.explorer.specs.Going.{Place, a_context, a_place, HaveKinds, entered_at, entered_at_all}
+use Rattle.shape_pool.specs.Rows.{HaveKinds}
+use Rattle.explorer.specs.Going.{Place, a_context, a_place, entered_at, entered_at_all}
 use Rattle.explorer.specs.Levels.{Entered, an_entered, Path, innermost, places, coming_below, coming_of}
 use Rattle.explorer.specs.Levels.{is_marked, is_marked_place, AreMarks, AreLevels}
 use Rattle.explorer.specs.Levels.{IsNextOnWay, IsNextUse, IsStart, IsWay}

@@ -11,7 +11,7 @@ use Rattle.location_words.specs.declared.fault.WordFault.TheVariants.{Pairs, Pow
 use Rattle.location_words.specs.Faults.{fault_of}
 use Rattle.expansion_laws.specs.Contexts.{Context, inside}
 use Rattle.shape_pool.specs.declared.node.UseOf.{UseOf}
-use Rattle.shape_pool.specs.Rows.{Row, kind_at, origin_at, tree_at, use_by}
+use Rattle.shape_pool.specs.Rows.{Row, tree_at, use_by, HaveKinds}
 use Rattle.shape_pool.specs.Laws.{word_in}
 use Rattle.explorer.specs.declared.found.Found.{Found}
 use Rattle.explorer.specs.declared.found.WordLimit.{WordLimit}
@@ -35,10 +35,6 @@ pub record Going : Type 0 where
   pub coming : List Place
   pub last : List Pair
   pub limit : Option WordLimit
-
--- the nodes of an origin have its kind
-abbrev pub HaveKinds : List Row → (ℕ → Kind) → Type 0
-HaveKinds rows kind = (i : ℕ) → i < length rows → kind (origin_at rows i) ≡ kind_at rows i
 
 module _ (table : List (List Pair)) (rows : List Row) (kind : ℕ → Kind) (find avoid : Option Kind) where
   -- the occurrences that are entered at and below a use that is still to come

@@ -13,7 +13,8 @@ use Rattle.shape_pool.specs.Rows.{Row, depth_at, tree_at, uses_at, HasPlaces}
 use Rattle.explorer.specs.declared.found.Found.{Found}
 use Rattle.explorer.specs.declared.found.WordLimit.{WordLimit}
 use Rattle.explorer.specs.Walks.{gives, is_wanted}
-use Rattle.explorer.specs.Going.{Going, Place, a_place, entered_at_all, first_of, HaveKinds, IsAnswer}
+use Rattle.shape_pool.specs.Rows.{HaveKinds}
+use Rattle.explorer.specs.Going.{Going, Place, a_place, entered_at_all, first_of, IsAnswer}
 
 -- a node that is entered: its number, how many of its uses are gone through, and its accumulated turn and word
 pub record Entered : Type 0 where

@@ -3,7 +3,8 @@ use Rattle.std.proofs.Common.{◌≡◌, ℕ, Option}
 use Rattle.std.specs.List.{filter}
 use Rattle.orientation.specs.declared.kind.Kind.{Kind}
 use Rattle.explorer.specs.Walks.{is_wanted}
-use Rattle.explorer.specs.Going.{entered_at_all, first_of, HaveKinds}
+use Rattle.shape_pool.specs.Rows.{HaveKinds}
+use Rattle.explorer.specs.Going.{entered_at_all, first_of}
 use Rattle.explorer.specs.Levels.{coming_of, is_marked_place, AreMarks, IsOnItsWay}
 use Rattle.explorer.proofs.WayLemmas.{weight}
 use Rattle.explorer.proofs.explorer.go_on.Given as goal
