@@ -5,3 +5,4 @@ pub mod TrailLemmas
 pub mod WayLemmas
 pub mod NextLemmas
 pub mod GoLemmas
+pub mod KindLaws

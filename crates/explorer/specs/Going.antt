@@ -1,9 +1,10 @@
 -- An explorer on its way: what is still to be gone through, and what comes first of it.
 use Rattle.std.specs.Prelude.{◌≡◌, ℕ, ◌<◌, Bool, true, false, if◌then◌else◌, List, [], ◌∷◌, ◌++◌, All, length}
-use Rattle.std.specs.Prelude.{Option, None, Some, Result, Ok, Err}
+use Rattle.std.specs.Prelude.{nat_eq, Option, None, Some, Result, Ok, Err}
 use Rattle.std.specs.Option.{option_map_or}
 use Rattle.std.specs.List.{filter, flat_map}
 use Rattle.orientation.specs.declared.kind.Kind.{Kind}
+use Rattle.orientation.specs.declared.kind.Kind.TheVariants.{Co}
 use Rattle.orientation.specs.declared.turn.Turn.{Turn}
 use Rattle.location_words.specs.declared.pair.Pair.{Pair}
 use Rattle.location_words.specs.declared.fault.WordFault.{WordFault}
@@ -12,7 +13,7 @@ use Rattle.location_words.specs.Faults.{fault_of}
 use Rattle.expansion_laws.specs.Contexts.{Context, inside}
 use Rattle.shape_pool.specs.declared.node.UseOf.{UseOf}
 use Rattle.shape_pool.specs.Rows.{Row, tree_at, use_by, HaveKinds}
-use Rattle.shape_pool.specs.Laws.{word_in}
+use Rattle.shape_pool.specs.Laws.{word_in, IsSound}
 use Rattle.explorer.specs.declared.found.Found.{Found}
 use Rattle.explorer.specs.declared.found.WordLimit.{WordLimit}
 use Rattle.explorer.specs.Walks.{Occurrence, entered, is_wanted}
@@ -35,6 +36,15 @@ pub record Going : Type 0 where
   pub coming : List Place
   pub last : List Pair
   pub limit : Option WordLimit
+
+-- the kind of the first node of an origin, and a compound where there is none
+abbrev pub kind_in : List Row → ℕ → Kind
+kind_in [] o = Co
+kind_in (r ∷ rows) o = if nat_eq r.origin o then r.kind else kind_in rows o
+
+-- in each pool origins have kinds that agree with the nodes'
+abbrev pub KindsAreThere : Type 0
+KindsAreThere = (rows : List Row) → IsSound rows → (kind : ℕ → Kind) × HaveKinds rows kind
 
 module _ (table : List (List Pair)) (rows : List Row) (kind : ℕ → Kind) (find avoid : Option Kind) where
   -- the occurrences that are entered at and below a use that is still to come
