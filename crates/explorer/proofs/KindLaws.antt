@@ -2,9 +2,7 @@
 use Rattle.std.proofs.Common.{◌≡◌, ◌<◌, refl, arith, ℕ, zero, suc, List, [], ◌∷◌, length, nat_eq, eq-eqb}
 use Rattle.std.proofs.lemmas.Bool.{eqb-true}
 use Rattle.lists.proofs.Cases.{by_test}
-use Rattle.orientation.specs.declared.kind.Kind.{Kind}
 use Rattle.shape_pool.specs.Rows.{Row, kind_at, origin_at, HaveKinds}
-use Rattle.shape_pool.specs.Laws.{IsSound}
 use Rattle.explorer.specs.Going.{kind_in, KindsAreThere}
 
 first-kind : (rows : List Row) → ((i j : ℕ) → i < length rows → j < length rows → origin_at rows i ≡ origin_at rows j →

@@ -1,18 +1,17 @@
 -- Marks: which numbers have an occurrence to give.
 use Rattle.std.proofs.Common.{◌≡◌, ◌∙◌, ◌<◌, ◌≤◌, ◌+◌, refl, ap, sym, subst, arith, inl, inr}
-use Rattle.std.proofs.Common.{Bool, true, false, not, ◌&&◌, ◌||◌, ℕ, suc, List, [], ◌∷◌, ◌++◌, map, drop, length, All}
-use Rattle.std.proofs.Common.{Option, Some, None, slice_get, slice_index_or}
+use Rattle.std.proofs.Common.{Bool, true, false, not, ◌&&◌, ◌||◌, ℕ, List, [], ◌∷◌, ◌++◌, map, drop, length, All}
+use Rattle.std.proofs.Common.{Option, Some, slice_get}
 use Rattle.std.specs.List.{filter, list_any}
-use Rattle.std.proofs.lemmas.List.{length-append}
 use Rattle.std.proofs.lemmas.List.Elements.{All-head, All-tail}
-use Rattle.std.proofs.lemmas.Option.{get_or_from_slice_get, slice_get_within, slice_get-get_or}
+use Rattle.std.proofs.lemmas.Option.{get_or_from_slice_get, slice_get_within}
 use Rattle.lists.proofs.Iterators.{next_item}
-use Rattle.lists.proofs.Places.{at_place, slice_get-left, slice_get-last, slice_get-push}
+use Rattle.lists.proofs.Places.{at_place, slice_get-left, slice_get-push}
 use Rattle.orientation.specs.declared.kind.Kind.{Kind}
 use Rattle.location_words.specs.declared.pair.Pair.{Pair}
-use Rattle.expansion_laws.specs.Trees.{Tree, uses_of}
+use Rattle.expansion_laws.specs.Trees.{uses_of}
 use Rattle.shape_pool.specs.declared.node.UseOf.{UseOf}
-use Rattle.shape_pool.specs.Rows.{Row, kind_at, origin_at, uses_at, use_by, tree_at}
+use Rattle.shape_pool.specs.Rows.{Row, kind_at, uses_at, use_by, tree_at}
 use Rattle.shape_pool.specs.Laws.{IsSound}
 use Rattle.explorer.specs.Walks.{is_avoided, is_sought, gives, any_gives}
 use Rattle.shape_pool.specs.Rows.{HaveKinds}

@@ -1,17 +1,17 @@
 -- The next use of a marked node: of the innermost node that is entered, or the root.
-use Rattle.std.proofs.Common.{◌≡◌, ◌∙◌, ◌<◌, ◌≤◌, ◌+◌, refl, ap, sym, subst, arith, ℕ, true, false, Bool}
+use Rattle.std.proofs.Common.{◌≡◌, ◌∙◌, ◌<◌, ◌+◌, refl, ap, sym, subst, arith, ℕ, true, false, Bool}
 use Rattle.std.proofs.Common.{List, [], ◌∷◌, ◌++◌, length, drop, Option, Some, None, slice_get}
 use Rattle.std.specs.List.{filter}
 use Rattle.std.proofs.lemmas.List.{length-append}
 use Rattle.std.proofs.lemmas.Option.{none-some}
-use Rattle.expansion_laws.specs.Contexts.{Context, at_root}
+use Rattle.expansion_laws.specs.Contexts.{at_root}
 use Rattle.shape_pool.specs.declared.node.NodeId.{NodeId}
 use Rattle.shape_pool.specs.declared.node.UseOf.{UseOf}
-use Rattle.shape_pool.specs.Rows.{Row, depth_at, uses_at}
+use Rattle.shape_pool.specs.Rows.{Row, uses_at}
 use Rattle.shape_pool.specs.Laws.{IsSound}
-use Rattle.explorer.specs.Going.{Place, a_place}
+use Rattle.explorer.specs.Going.{a_place}
 use Rattle.explorer.specs.Levels.{Entered, an_entered, Path, innermost, coming_of, is_marked, is_marked_place}
-use Rattle.explorer.specs.Levels.{AreLevels, IsEndOfWay, IsNextOnWay, IsNextUse, IsStart, IsWay}
+use Rattle.explorer.specs.Levels.{AreLevels, IsEndOfWay, IsNextOnWay, IsNextUse, IsWay}
 use Rattle.explorer.specs.Trails.{IsInnermost, IsLeft, IsPast}
 use Rattle.explorer.proofs.MarkLemmas.{used-before}
 use Rattle.explorer.proofs.WayLemmas.{next-comes, none-comes, levels-push, levels-before, last-held, last-room}

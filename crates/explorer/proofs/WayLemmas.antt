@@ -1,8 +1,8 @@
 -- What is still to come on the way, and what is entered of it.
 use Rattle.std.proofs.Common.{◌≡◌, ◌∙◌, ◌<◌, ◌≤◌, ◌+◌, refl, ap, sym, subst, arith, ℕ, zero, suc}
 use Rattle.std.proofs.Common.{Bool, true, false, List, [], ◌∷◌, ◌++◌, map, drop, length, All, Option, Some, None}
-use Rattle.std.proofs.Common.{slice_get, slice_index_or, option_to_list, unwrap_or}
-use Rattle.std.specs.List.{filter, fold, flat_map, AllByRecursion}
+use Rattle.std.proofs.Common.{slice_get, option_to_list, unwrap_or}
+use Rattle.std.specs.List.{filter, fold, AllByRecursion}
 use Rattle.std.proofs.lemmas.List.{append-nil}
 use Rattle.std.proofs.lemmas.List.Elements.{All-head, All-tail, filter-append}
 use Rattle.std.proofs.lemmas.List.Sums.{fold-append}
@@ -14,16 +14,16 @@ use Rattle.lists.proofs.Each.{each-append}
 use Rattle.orientation.specs.declared.kind.Kind.{Kind}
 use Rattle.location_words.specs.declared.pair.Pair.{Pair}
 use Rattle.location_words.specs.Laws.{WordsAreAGroup}
-use Rattle.location_words.specs.Pairs.{mul, norm, IsHeldWord}
+use Rattle.location_words.specs.Pairs.{norm, IsHeldWord}
 use Rattle.location_words.specs.Tables.{IsTable}
 use Rattle.expansion_laws.specs.Trees.{Tree, Uses, node, uses_of}
 use Rattle.expansion_laws.specs.Measures.{use_count, uses_count}
 use Rattle.expansion_laws.specs.Contexts.{Context, at_root}
 use Rattle.shape_pool.specs.declared.node.NodeId.{NodeId}
 use Rattle.shape_pool.specs.declared.node.UseOf.{UseOf}
-use Rattle.shape_pool.specs.Rows.{Row, depth_at, depth_over, greatest, origin_at, uses_at, use_by, tree_at, HasPlaces}
+use Rattle.shape_pool.specs.Rows.{Row, depth_at, greatest, origin_at, uses_at, use_by, tree_at, HasPlaces}
 use Rattle.shape_pool.specs.Laws.{word_in, IsSound}
-use Rattle.explorer.specs.Walks.{Occurrence, an_occurrence, gives, entered, entered_below}
+use Rattle.explorer.specs.Walks.{an_occurrence, gives, entered, entered_below}
 use Rattle.shape_pool.specs.Rows.{HaveKinds}
 use Rattle.explorer.specs.Going.{Place, a_context, a_place, entered_at, entered_at_all}
 use Rattle.explorer.specs.Levels.{Entered, an_entered, Path, innermost, places, coming_below, coming_of}
