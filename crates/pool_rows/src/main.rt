@@ -15,6 +15,7 @@ mod plans;
 mod pools;
 mod scene;
 mod texts;
+mod walks;
 
 use checks::requests_row;
 use histories::{chain_row, start_row, step_row, steps_row};
@@ -25,6 +26,7 @@ use pools::pool_row;
 use std::alloc::Global;
 use std::io;
 use std::io::{BufReader, BufWriter, Write};
+use walks::walk_row;
 
 /// The answer to a row, by its first word, over the pool of these statements.
 fn answer(alloc: Global, held: &str, word: &str, rest: &str) -> Result<String, Stop> {
@@ -39,6 +41,7 @@ fn answer(alloc: Global, held: &str, word: &str, rest: &str) -> Result<String, S
         b"count" => count_row(alloc, held, rest),
         b"above" => above_row(alloc, held, rest),
         b"above-count" => above_count_row(alloc, held, rest),
+        b"walk" => walk_row(alloc, held, rest),
         b"ids" => ids_row(alloc, rest),
         b"pairs" => pairs_row(alloc, rest),
         _ => Err(Stop::Unreadable),

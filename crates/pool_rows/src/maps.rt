@@ -12,7 +12,12 @@ use std::alloc::Global;
 use subshape_maps::{AncestorMap, MapFault, ShapeAt, ShapeMap, ancestors, map_shapes};
 
 /// A root that may be looked into.
-fn root_of(alloc: Global, scene: &Scene, words: &Words, text: &str) -> Result<UseOf, Stop>
+pub(crate) fn root_of(
+    alloc: Global,
+    scene: &Scene,
+    words: &Words,
+    text: &str,
+) -> Result<UseOf, Stop>
     ensures root { IfOk result (λ root. root.id.0 < length scene.now.pool) }
     ensures place { IfOk result (λ root. root.place.0 < length words.now) }
 {

@@ -171,18 +171,23 @@ fn put_pair(out: &mut String, pair: Pair) -> Result<(), Stop> {
     Ok(())
 }
 
-/// Writes the word of a number behind `@`, and nothing for the identity.
-pub(crate) fn put_word(out: &mut String, words: &Words, id: WordId) -> Result<(), Stop> {
-    if id.0 >= words.len() {
-        return Err(Stop::Unreadable);
-    }
+/// Writes the pairs of a word behind `@`, and nothing for the identity.
+pub(crate) fn put_pairs(out: &mut String, pairs: &[Pair]) -> Result<(), Stop> {
     let mut mark = "@";
-    for pair in words.word(id).pairs() {
+    for pair in pairs {
         out.push_str(mark)?;
         put_pair(out, *pair)?;
         mark = ".";
     }
     Ok(())
+}
+
+/// Writes the word of a number behind `@`, and nothing for the identity.
+pub(crate) fn put_word(out: &mut String, words: &Words, id: WordId) -> Result<(), Stop> {
+    if id.0 >= words.len() {
+        return Err(Stop::Unreadable);
+    }
+    put_pairs(out, words.word(id).pairs())
 }
 
 /// Writes the sign of a turn.
