@@ -1,0 +1,4 @@
+pub mod Watching
+pub mod Told
+pub mod TellsAll
+pub mod Hearing
