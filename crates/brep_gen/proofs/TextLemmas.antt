@@ -1,5 +1,6 @@
 -- Texts of lines, and words with a space after each.
-use Rattle.std.proofs.Common.{◌≡◌, refl, ap, sym, ◌∙◌, append_assoc, append-nil, arith, ℕ, suc, ◌+◌, List, [], ◌∷◌, ◌++◌}
+use Rattle.std.proofs.Common.{◌≡◌, refl, ap, sym, ◌∙◌, append_assoc, append-nil, arith, ℕ, suc, ◌+◌, List, [], ◌∷◌}
+use Rattle.std.proofs.Common.{◌++◌}
 use Rattle.std.specs.Prelude.{codes}
 use Rattle.std.specs.List.{join_with_byte}
 use Rattle.std.proofs.lemmas.Grind.{flat_map-append}
@@ -40,7 +41,8 @@ pub lines_more : (t : List ℕ) (k : ℕ) (f : ℕ → List Line) →
     (t ++ lines_text (in_turn k f)) ++ lines_text (f k) ≡ t ++ lines_text (in_turn (k + 1) f)
 unfolding in_turn
 lines_more t k f =
-    append_assoc t (lines_text (in_turn k f)) (lines_text (f k)) ∙ ap (λ z. t ++ z) (sym (lines_join (in_turn k f) (f k)))
+    append_assoc t (lines_text (in_turn k f)) (lines_text (f k))
+    ∙ ap (λ z. t ++ z) (sym (lines_join (in_turn k f) (f k)))
     ∙ ap (λ n. t ++ lines_text (in_turn n f)) (next k)
 
 pub spaced_more : (t : List ℕ) (k : ℕ) (f : ℕ → Line) →
@@ -73,7 +75,8 @@ compound_text t u v w us e f g =
     g ∙ ap (λ z. z ++ codes "*\n") f ∙ ap (λ z. (z ++ spaced us) ++ codes "*\n") e
     ∙ append_assoc (t ++ codes "Co\n\n0101000\n") (spaced us) (codes "*\n")
     ∙ append_assoc t (codes "Co\n\n0101000\n") (spaced us ++ codes "*\n")
-    ∙ ap (λ z. t ++ (codes "Co\n\n0101000\n" ++ z)) (sym (starred us) ∙ sym (append-nil (line_text (us ++ codes "*" ∷ []))))
+    ∙ ap (λ z. t ++ (codes "Co\n\n0101000\n" ++ z))
+    (sym (starred us) ∙ sym (append-nil (line_text (us ++ codes "*" ∷ []))))
 
 -- texts that are appended one after another
 pub three : (t u v w a b c : List ℕ) → u ≡ t ++ a → v ≡ u ++ b → w ≡ v ++ c → w ≡ t ++ (a ++ (b ++ c))

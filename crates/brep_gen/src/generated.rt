@@ -14,8 +14,8 @@ pub struct Generated {
 }
 
 /// The file and the script of a seed: 1,024 vertices on a line, 1,024 edges between neighbours, so many levels of 1,024
-/// compounds, each of four uses that are drawn from the level before, and a compound of the last level. The script makes
-/// the first two vertices one, and removes an edge in a second step.
+/// compounds, each of four uses that are drawn from the level before, and a compound of the last level. The script
+/// makes the first two vertices one, and removes an edge in a second step.
 pub fn generate(alloc: Global, seed: u64, levels: u32) -> Result<Generated, AllocError>
     ensures file { IfOk result (λ made. made.file ≡ file_text seed levels) }
     ensures script { IfOk result (λ made. made.script ≡ script_text levels) }

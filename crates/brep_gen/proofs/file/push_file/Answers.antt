@@ -15,8 +15,10 @@ returns c =
     let head = heading (codes "TShapes") (decimal (record_count c.args.levels)) ∷ [] in
     let root = (codes "+1" ∷ nought ∷ []) ∷ [] in
     let headed = c.in_ok-push_heading.ensures
-    ∙ ap (λ n. c.push_tables.new.text.items ++ lines_text (heading (codes "TShapes") (decimal n) ∷ [])) c.count_of.ensures in
-    let last = joined c.push_heading.new.text.items c.push_records.new.text.items c.push_root.new.text.items records root
+    ∙ ap (λ n. c.push_tables.new.text.items ++ lines_text (heading (codes "TShapes") (decimal n) ∷ []))
+    c.count_of.ensures in
+    let last =
+    joined c.push_heading.new.text.items c.push_records.new.text.items c.push_root.new.text.items records root
     c.in_ok-push_records.ensures c.in_ok-push_root.ensures in
     let most = joined c.push_tables.new.text.items c.push_heading.new.text.items c.push_root.new.text.items head
     (records ++ root) headed last in

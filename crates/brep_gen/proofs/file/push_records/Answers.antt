@@ -18,7 +18,8 @@ returns c =
     c.in_ok-push_levels.ensures c.in_ok-push_whole.ensures in
     let most = joined c.push_vertices.new.text.items c.push_edges.new.text.items c.push_whole.new.text.items b (d ++ e)
     c.in_ok-push_edges.ensures last in
-    joined t c.push_vertices.new.text.items c.push_whole.new.text.items a (b ++ (d ++ e)) c.in_ok-push_vertices.ensures most
+    joined t c.push_vertices.new.text.items c.push_whole.new.text.items a (b ++ (d ++ e))
+    c.in_ok-push_vertices.ensures most
     ∙ ap
     (λ n. t ++ lines_text (in_turn 1024 vertex_lines ++ (in_turn 1024 (edge_lines n)
     ++ (drawn_levels n levels c.args.seed ++ whole n (1024 * (levels + 1))))))

@@ -21,4 +21,6 @@ loop-k-preserved c =
     )
 
 pub loop-k-init : goal.loop-k-init
-loop-k-init c = let x = c.args.draws.now.state in (spaced_none c.args.text.now.items (λ k. drawn_use c.args.n c.args.first (state_at x (3 * k))), state_none x)
+loop-k-init c =
+    let x = c.args.draws.now.state in
+    (spaced_none c.args.text.now.items (λ k. drawn_use c.args.n c.args.first (state_at x (3 * k))), state_none x)

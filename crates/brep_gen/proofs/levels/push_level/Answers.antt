@@ -21,4 +21,6 @@ loop-k-preserved c =
     )
 
 pub loop-k-init : goal.loop-k-init
-loop-k-init c = let x = c.args.draws.now.state in (lines_none c.args.text.now.items (λ k. drawn_compound c.args.n c.args.first (state_at x (12 * k))), state_none x)
+loop-k-init c =
+    let x = c.args.draws.now.state in
+    (lines_none c.args.text.now.items (λ k. drawn_compound c.args.n c.args.first (state_at x (12 * k))), state_none x)

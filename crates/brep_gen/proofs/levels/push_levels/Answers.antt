@@ -12,7 +12,8 @@ loop-level-preserved c =
     let x = c.args.draws.now.state in
     let k = c.loop-level.level in (
       c.in_ok-push_level.ensures.text
-          ∙ (λ i. c.loop-level.invariant.0 i ++ lines_text (drawn_level c.args.n (1024 * (k + 1)) (c.loop-level.invariant.1 i)))
+          ∙ (λ i. c.loop-level.invariant.0 i
+          ++ lines_text (drawn_level c.args.n (1024 * (k + 1)) (c.loop-level.invariant.1 i)))
           ∙ lines_more c.args.text.now.items k (λ k. drawn_level c.args.n (1024 * (k + 1)) (state_at x (12288 * k))),
       c.in_ok-push_level.ensures.draws
           ∙ ap (λ s. state_at s 12288) c.loop-level.invariant.1
@@ -21,4 +22,8 @@ loop-level-preserved c =
     )
 
 pub loop-level-init : goal.loop-level-init
-loop-level-init c = let x = c.args.draws.now.state in (lines_none c.args.text.now.items (λ k. drawn_level c.args.n (1024 * (k + 1)) (state_at x (12288 * k))), state_none x)
+loop-level-init c =
+    let x = c.args.draws.now.state in (
+      lines_none c.args.text.now.items (λ k. drawn_level c.args.n (1024 * (k + 1)) (state_at x (12288 * k))),
+      state_none x,
+    )

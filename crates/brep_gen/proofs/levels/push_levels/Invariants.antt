@@ -7,5 +7,6 @@ use Rattle.brep_gen.proofs.levels.push_levels.Given as goal
 abbrev pub invariant-loop-level : goal.invariant-loop-level
 invariant-loop-level l =
     (l.text.items ≡ l.initial.text.items
-    ++ lines_text (in_turn l.level (λ k. drawn_level l.n (1024 * (k + 1)) (state_at l.initial.draws.state (12288 * k)))))
+    ++ lines_text
+    (in_turn l.level (λ k. drawn_level l.n (1024 * (k + 1)) (state_at l.initial.draws.state (12288 * k)))))
     × (l.draws.state ≡ state_at l.initial.draws.state (12288 * l.level))
