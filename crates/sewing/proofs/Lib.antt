@@ -1,0 +1,5 @@
+pub mod SortedSame
+pub mod Unmapped
+pub mod KeyLaws
+pub mod TreeLaws
+pub mod MemberLemmas

@@ -1,0 +1,4 @@
+pub mod Asked
+pub mod Refused
+pub mod Keys
+pub mod AsTrees
