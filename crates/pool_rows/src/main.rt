@@ -14,6 +14,7 @@ mod parse;
 mod plans;
 mod pools;
 mod scene;
+mod sews;
 mod texts;
 mod walks;
 
@@ -23,6 +24,7 @@ use maps::{above_count_row, above_row, count_row, map_row};
 use numbers::{ids_row, pairs_row};
 use parse::Stop;
 use pools::pool_row;
+use sews::{merge_row, sew_row};
 use std::alloc::Global;
 use std::io;
 use std::io::{BufReader, BufWriter, Write};
@@ -42,6 +44,8 @@ fn answer(alloc: Global, held: &str, word: &str, rest: &str) -> Result<String, S
         b"above" => above_row(alloc, held, rest),
         b"above-count" => above_count_row(alloc, held, rest),
         b"walk" => walk_row(alloc, held, rest),
+        b"merge" => merge_row(alloc, held, rest),
+        b"sew" => sew_row(alloc, held, rest),
         b"ids" => ids_row(alloc, rest),
         b"pairs" => pairs_row(alloc, rest),
         _ => Err(Stop::Unreadable),
