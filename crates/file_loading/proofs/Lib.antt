@@ -1,0 +1,4 @@
+pub mod PlaceLaws
+pub mod UseLaws
+pub mod SoundFiles
+pub mod LoadLaws
