@@ -1,0 +1,54 @@
+//! A file that is read and loaded.
+ghost use Rattle.brep_file.specs.Sound.{IsSound, IsWithinLimits};
+ghost use Rattle.std.specs.Prelude.{IfOk};
+
+use crate::saying::{add_node, add_number, add_use};
+use brep_file::laws::reading_is_exact;
+use brep_file::{File, read_file};
+use brep_tokens::ReadStop;
+use file_loading::load_file;
+use location_words::Words;
+use shape_pool::Pool;
+use std::alloc::{AllocError, Global};
+
+/// The file of a text.
+fn file_of(alloc: Global, bytes: Vec<u8>) -> Result<File, ReadStop>
+    ensures sound { IfOk result IsSound }
+    ensures within { IfOk result IsWithinLimits }
+{
+    reading_is_exact();
+    read_file(alloc, bytes)
+}
+
+/// The root use of a file that is loaded into a pool, and each node: its number, its kind, its record and its uses.
+fn nodes_text(alloc: Global, file: &File) -> Result<String, AllocError>
+    requires sound { IsSound file.now }
+    requires within { IsWithinLimits file.now }
+{
+    let mut pool = Pool::new(alloc)?;
+    let mut words = Words::new(alloc)?;
+    let root = load_file(alloc, file, &mut pool, &mut words)?;
+    let mut text = String::new(alloc);
+    text.push_str("root")?;
+    add_use(&mut text, alloc, &words, root)?;
+    text.push_str("\n")?;
+    for id in 0..pool.mark() {
+        add_node(&mut text, alloc, &pool, &words, id)?;
+    }
+    Ok(text)
+}
+
+/// What is said of the file of a text.
+pub(crate) fn loaded_text(alloc: Global, bytes: &[u8]) -> Result<String, AllocError> {
+    match file_of(alloc, bytes.to_vec(alloc)?) {
+        Ok(file) => nodes_text(alloc, &file),
+        Err(ReadStop::Fault(fault)) => {
+            let mut text = String::new(alloc);
+            text.push_str("fault at")?;
+            add_number(&mut text, alloc, fault.offset)?;
+            text.push_str("\n")?;
+            Ok(text)
+        }
+        Err(ReadStop::NoMemory) => Err(AllocError),
+    }
+}
