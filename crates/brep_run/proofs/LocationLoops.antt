@@ -8,7 +8,7 @@ use Rattle.std.specs.Fmt.{decimal, digits, signed_decimal}
 use Rattle.std.specs.Iterator.{Drains, Yields, YieldsFirst}
 use Rattle.std.proofs.Math.Seq.{take-suc}
 use Rattle.std.proofs.lemmas.Grind.{flat_map-append}
-use Rattle.std.proofs.lemmas.List.{append_assoc, append-nil, map-append}
+use Rattle.std.proofs.lemmas.List.{append_assoc, append-nil, length-append, length-map, map-append}
 use Rattle.std.proofs.lemmas.List.Elements.{All-from_recursion, All-contains_itself, All-weaker}
 use Rattle.std.proofs.lemmas.List.Elements.{Contains-get_or, Contains-append_left, Contains-append_right}
 use Rattle.lists.proofs.Places.{take-at}
@@ -21,7 +21,7 @@ use Rattle.location_table.specs.declared.entry.LocationEntry.TheVariants.{Datum,
 use Rattle.location_table.specs.Locations.{factor, spell_factor, spell_location}
 use Rattle.location_table.specs.Spell.{CanSpellLocation}
 use Rattle.location_table.specs.Words.{datums_of}
-use Rattle.location_table.specs.Written.{product_of}
+use Rattle.location_table.specs.Written.{product_of, written_section}
 use Rattle.written_locations.specs.declared.written.WrittenLocations.{WrittenLocations}
 use Rattle.written_locations.specs.Added.{further_of, IsAdded, IsNumbering, Adds}
 use Rattle.written_locations.specs.Laws.{AddedPartsJoin, SectionsHold}
@@ -37,7 +37,7 @@ use Rattle.brep_file.specs.declared.file.File.{File}
 use Rattle.brep_file.specs.PlainRecords.{record_of}
 use Rattle.brep_file.specs.Sound.{IsSound, sizes_of}
 use Rattle.brep_file.specs.Spelling.{section, spell_record, spell_tables, spell_use}
-use Rattle.brep_run.specs.Layout.{Line, pair_text}
+use Rattle.brep_run.specs.Layout.{Line, location_lines, pair_text}
 use Rattle.brep_run.specs.Completion.{NumbersTell, ArePlaced, AreLocated, locations_in}
 use Rattle.brep_run.specs.Completion.{locations_of_number, locations_used}
 use Rattle.brep_run.proofs.ShortTokens.{each-left, each-right}
@@ -201,6 +201,12 @@ datum_lines-append a b =
     ∙ flat_map-append line_text (map spell_location (map Datum (datums_of a)))
     (map spell_location (map Datum (datums_of b)))
 
+pub datum_line : (e : LocationEntry) (texts : List (List ℕ)) → e ≡ Datum texts
+    → line_text (spell_location e) ≡ datum_lines (e ∷ [])
+datum_line e texts is =
+    subst (λ (x : LocationEntry). line_text (spell_location x) ≡ datum_lines (x ∷ [])) (sym is)
+    (sym (append-nil (line_text (spell_location (Datum texts)))))
+
 pub datums-more : (entries : List LocationEntry) (i : ℕ) (d : LocationEntry) → i < length entries →
     datum_lines (take (i + 1) entries) ≡ datum_lines (take i entries) ++ datum_lines (slice_index_or entries i d ∷ [])
 datums-more entries i d lt =
@@ -227,21 +233,14 @@ join-push (y ∷ []) x = refl
 join-push (y ∷ z ∷ xs) x =
     ap (λ t. y ++ 32 ∷ t) (join-push (z ∷ xs) x) ∙ sym (append_assoc y (32 ∷ join_with_byte 32 (z ∷ xs)) (32 ∷ x))
 
-none-push : (xs : List (List ℕ)) (x : List ℕ) → is_none (xs ++ x ∷ []) ≡ false
+pub none-push : (xs : List (List ℕ)) (x : List ℕ) → is_none (xs ++ x ∷ []) ≡ false
 none-push [] x = refl
 none-push (y ∷ xs) x = refl
 
-pub token-more : (init before after : List ℕ) (xs : List (List ℕ)) (x : List ℕ) (first : Bool)
-    → before ≡ init ++ join_with_byte 32 xs → first ≡ is_none xs →
-    after ≡ before ++ (if first then x else 32 ∷ x)
-    → (after ≡ init ++ join_with_byte 32 (xs ++ x ∷ [])) × (false ≡ is_none (xs ++ x ∷ []))
-token-more init before after xs x first is flag more = (
-  more
-      ∙ (λ i. is i ++ (if flag i then x else 32 ∷ x))
-      ∙ append_assoc init (join_with_byte 32 xs) (if is_none xs then x else 32 ∷ x)
-      ∙ ap (λ t. init ++ t) (sym (join-push xs x)),
-  sym (none-push xs x),
-)
+pub token-more : (xs : List (List ℕ)) (x : List ℕ) (first : Bool) → first ≡ is_none xs
+    → join_with_byte 32 xs ++ (if first then x else 32 ∷ x) ≡ join_with_byte 32 (xs ++ x ∷ [])
+token-more xs x first flag =
+    (λ i. join_with_byte 32 xs ++ (if flag i then x else 32 ∷ x)) ∙ sym (join-push xs x)
 
 -- ---- entries that can be spelled
 all-can : {A : Type 0} (IsSoundEntry CanSpell : A → Type 0) (spell : A → List (List ℕ))
@@ -313,27 +312,36 @@ short-table f sound =
     }
 
 -- lines in front of others
-pub lines-before : (first others : List Line) → lines_text (first ++ others) ≡ lines_text first ++ lines_text others
-lines-before first others = flat_map-append line_text first others
+lines-before : (first others : List Line) → lines_text first ++ lines_text others ≡ lines_text (first ++ others)
+lines-before first others = sym (flat_map-append line_text first others)
 
-pub six : (init t1 t2 t3 t4 t5 t6 : List ℕ) (a b d e h g : List Line) → t1 ≡ init ++ lines_text a
-    → t2 ≡ t1 ++ lines_text b → t3 ≡ t2 ++ lines_text d → t4 ≡ t3 ++ lines_text e → t5 ≡ t4 ++ lines_text h →
-    t6 ≡ t5 ++ lines_text g → t6 ≡ init ++ lines_text (a ++ (b ++ (d ++ (e ++ (h ++ g)))))
-six init t1 t2 t3 t4 t5 t6 a b d e h g e1 e2 e3 e4 e5 e6 =
-    e6
-    ∙ ap (λ t. t ++ lines_text g) (e5
-    ∙ ap (λ t. t ++ lines_text h) (e4
-    ∙ ap (λ t. t ++ lines_text e) (e3 ∙ ap (λ t. t ++ lines_text d) (e2 ∙ ap (λ t. t ++ lines_text b) e1))))
-    ∙ in-row init (lines_text a) (lines_text b) (lines_text d) (lines_text e) (lines_text h) (lines_text g)
-    ∙ ap (λ t. init ++ t)
-    (sym (lines-before a (b ++ (d ++ (e ++ (h ++ g)))) ∙ ap (λ t. lines_text a ++ t)
-    (lines-before b (d ++ (e ++ (h ++ g)))
-    ∙ ap (λ t. lines_text b ++ t) (lines-before d (e ++ (h ++ g)) ∙ ap (λ t. lines_text d ++ t)
-    (lines-before e (h ++ g) ∙ ap (λ t. lines_text e ++ t) (lines-before h g))))))
-  where
-    in-row : (i p q r s t u : List ℕ)
-        → (((((i ++ p) ++ q) ++ r) ++ s) ++ t) ++ u ≡ i ++ (p ++ (q ++ (r ++ (s ++ (t ++ u)))))
-    in-row i p q r s t u = simp append_assoc
+pub six : (a b d e h g : List Line)
+    → lines_text a ++ (lines_text b ++ (lines_text d ++ (lines_text e ++ (lines_text h ++ lines_text g))))
+    ≡ lines_text (a ++ (b ++ (d ++ (e ++ (h ++ g)))))
+six a b d e h g =
+    ap (λ t. lines_text a ++ (lines_text b ++ (lines_text d ++ (lines_text e ++ t)))) (lines-before h g)
+    ∙ ap (λ t. lines_text a ++ (lines_text b ++ (lines_text d ++ t))) (lines-before e (h ++ g))
+    ∙ ap (λ t. lines_text a ++ (lines_text b ++ t)) (lines-before d (e ++ (h ++ g)))
+    ∙ ap (λ t. lines_text a ++ t) (lines-before b (d ++ (e ++ (h ++ g))))
+    ∙ lines-before a (b ++ (d ++ (e ++ (h ++ g))))
+
+-- the heading of the section of locations, its datums and its further words
+pub section_parts : (entries : List LocationEntry) (words : List (List Pair)) (count : ℕ)
+    → count ≡ length (datums_of entries) + length words
+    → line_text (codes "Locations" ∷ decimal count ∷ [])
+    ++ (datum_lines entries ++ lines_text (map spell_location (map product_of words)))
+    ≡ lines_text (location_lines (written_section (datums_of entries) words))
+section_parts entries words count is =
+    let datums : List LocationEntry = map Datum (datums_of entries) in
+    let products : List LocationEntry = map product_of words in
+    let long : count ≡ length (datums ++ products) =
+    (let a = length-map (datums_of entries) Datum in let b = length-map words product_of in
+    let e = length-append datums products in omega (arith, is, a, b, e)) in
+    (λ i. line_text (codes "Locations" ∷ decimal (long i) ∷ [])
+    ++ (lines_text (map spell_location datums) ++ lines_text (map spell_location products)))
+    ∙ ap (λ t. line_text (codes "Locations" ∷ decimal (length (datums ++ products)) ∷ []) ++ t)
+    (lines-before (map spell_location datums) (map spell_location products)
+    ∙ ap lines_text (sym (map-append spell_location datums products)))
 
 pub can-locations : (f : File) → IsSound f → (entries : List LocationEntry) → entries ≡ f.locations
     → All CanSpellLocation entries

@@ -8,7 +8,7 @@ ghost use Rattle.brep_run.specs.Layout.{text_before_records};
 ghost use Rattle.brep_run.specs.Remaining.{made_root};
 ghost use Rattle.brep_run.specs.WrittenFile.{text_of, written_records};
 ghost use Rattle.brep_tokens.specs.Tokens.{version_line};
-ghost use Rattle.std.specs.Prelude.{◌≡◌, ◌⊎◌, ◌∷◌, ◌++◌, IfOk, OnOk, [], length};
+ghost use Rattle.std.specs.Prelude.{◌≡◌, ◌⊎◌, ◌∷◌, ◌++◌, IfOk, [], length};
 ghost use Rattle.written_locations.specs.Added.{IsNumbering, location_number};
 
 mod lines;
@@ -17,6 +17,8 @@ mod order;
 mod tables;
 
 use brep_file::File;
+use byte_sink::laws::texts_are_kept;
+use byte_sink::{TakesBytes, TextBytes};
 use expansion_laws::laws::{equal_trees_tell, records_are_trees};
 use lines::{push_heading, push_record, push_use};
 use locations::{locations_in, push_locations};
@@ -41,37 +43,31 @@ fn version_bytes(version: u8) -> &'static [u8]
 /// The lines of a compound without uses that is made as the root, and of its use.
 const MADE_COMPOUND: &[u8] = b"TShapes 1\nCo\n\n1101000\n*\n+1 0\n";
 
-/// The version line, the locations and the tables, in a text with room for so many bytes in all.
-fn begun_text(
-    alloc: Global,
-    file: &File,
-    locations: &WrittenLocations<'_>,
-    room: usize,
-) -> Result<Vec<u8>, AllocError>
+/// The version line, the locations and the tables.
+fn push_beginning<B: TakesBytes>(text: &mut B, file: &File, locations: &WrittenLocations<'_>)
     requires sound { IsSound file.now }
     requires numbering { IsNumbering locations.now }
     requires section { locations.now.section.now ≡ file.now.locations }
-    ensures { IfOk result (λ text. text.items ≡ text_before_records file.now (locations_of locations.now)) }
+    ensures { B.gives text.old (text_before_records file.now (locations_of locations.now)) text.new }
 {
-    let mut text = Vec::with_capacity(alloc, room)?;
-    text.extend_from_slice(version_bytes(file.version))?;
-    push_locations(&mut text, locations)?;
-    push_tables(&mut text, file)?;
-    Ok(text)
+    text.push(version_bytes(file.version));
+    push_locations(text, locations);
+    push_tables(text, file);
 }
 
 /// The lines of the records in their order.
-fn push_records(
-    text: &mut Vec<u8>,
+fn push_records<B: TakesBytes>(
+    text: &mut B,
     file: &File,
     order: &Order,
     locations: &WrittenLocations<'_>,
-) -> Result<(), AllocError>
+)
     requires tell { NumbersTell file.now }
     requires placed { ArePlaced (length file.now.records) order.now.numbers.items order.now.places.items }
     requires located { AreLocated file.now (locations_used file.now order.now.numbers.items) locations.now }
-    ensures { OnOk result (text.new.items ≡ text.old.items
-        ++ lines_of_numbers file.now order.now.numbers.items order.now.places.items (location_number locations.now)) }
+    ensures { B.gives text.old
+        (lines_of_numbers file.now order.now.numbers.items order.now.places.items (location_number locations.now))
+        text.new }
 {
     renumbering_keeps_parts();
     for number in order.numbers() {
@@ -81,34 +77,32 @@ fn push_records(
             file.version,
             order,
             locations,
-        )?;
+        );
     }
-    Ok(())
 }
 
 /// The records and the root use.
-fn push_shapes(
-    text: &mut Vec<u8>,
+fn push_shapes<B: TakesBytes>(
+    text: &mut B,
     file: &File,
     order: &Order,
     locations: &WrittenLocations<'_>,
-) -> Result<(), AllocError>
+)
     requires tell { NumbersTell file.now }
     requires placed { ArePlaced (length file.now.records) order.now.numbers.items order.now.places.items }
     requires completed { Completes file.now file.now.root.number [] order.now.numbers.items }
     requires located { AreLocated file.now (locations_used file.now order.now.numbers.items) locations.now }
-    ensures { OnOk result (text.new.items ≡ text.old.items ++ written_records file.now) }
+    ensures { B.gives text.old (written_records file.now) text.new }
 {
-    push_heading(text, b"TShapes", order.numbers().len())?;
-    push_records(text, file, order, locations)?;
+    push_heading(text, b"TShapes", order.numbers().len());
+    push_records(text, file, order, locations);
     push_use(
         text,
         file.root.turn,
         order.new_number(file.root.number as usize),
         locations.number(file.root.location),
         b'\n',
-    )?;
-    Ok(())
+    );
 }
 
 /// The text of a file, given the order of its records. `room` is how many bytes are expected; the text may have fewer
@@ -124,10 +118,12 @@ pub(crate) fn text_in_order(
     requires completed { Completes file.now file.now.root.number [] order.now.numbers.items }
     ensures { IfOk result (λ text. text.items ≡ text_of file.now (expansion_of file.now)) }
 {
+    texts_are_kept();
     let locations = locations_in(alloc, file, order)?;
-    let mut text = begun_text(alloc, file, &locations, room)?;
-    push_shapes(&mut text, file, order, &locations)?;
-    Ok(text)
+    let mut text = TextBytes::with_room(alloc, room)?;
+    push_beginning(&mut text, file, &locations);
+    push_shapes(&mut text, file, order, &locations);
+    text.finish()
 }
 
 /// The text by the written layout of the records that the root leads to. `room` is how many bytes are expected; the
@@ -148,8 +144,10 @@ pub(crate) fn made_text(alloc: Global, file: &File, room: usize) -> Result<Vec<u
     requires { IsSound file.now }
     ensures { IfOk result (λ text. text.items ≡ text_of file.now made_root) }
 {
+    texts_are_kept();
     let locations = WrittenLocations::new(alloc, &file.locations)?;
-    let mut text = begun_text(alloc, file, &locations, room)?;
-    text.extend_from_slice(MADE_COMPOUND)?;
-    Ok(text)
+    let mut text = TextBytes::with_room(alloc, room)?;
+    push_beginning(&mut text, file, &locations);
+    text.push(MADE_COMPOUND);
+    text.finish()
 }

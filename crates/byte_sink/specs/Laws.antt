@@ -7,7 +7,8 @@ use Rattle.brep_desk.specs.WritingCalls.{NoFewerWritingCalls, RoseWritingCalls}
 use Rattle.brep_desk.specs.Transfers.{Appended, AppendedAll}
 use Rattle.brep_desk.specs.declared.transfers.WriteStop.{WriteStop}
 use Rattle.byte_sink.specs.Sending.{Waiting, nothing_waits, counted_on, Sent, Stopped}
-use Rattle.byte_sink.specs.Handing.{Standing, Begins, Handed, Ends}
+use Rattle.byte_sink.specs.Handing.{GivesText, IsText, Standing, Begins, Handed, Ends}
+use Rattle.byte_sink.specs.declared.text.TextBytes.{TextBytes}
 
 -- No bytes leave everything as it is. Pieces that are handed in one after another are one piece. A stop within a piece
 -- is one within each longer piece, and so is a stop behind another piece.
@@ -53,3 +54,7 @@ abbrev pub TextsGoOut : Type 0
 TextsGoOut =
     (t : Tells) (old : Shown) (before c : ℕ) (a b d : Standing) (text : List ℕ) (result : Result ℕ WriteStop)
     → Begins old before c a → Handed t a b text → Ends t b d result → WentOut t old before c text d result
+
+-- A text in memory that was empty holds at its end what was handed in.
+abbrev pub TextsAreKept : Type 0
+TextsAreKept = (a b : TextBytes) (x text : List ℕ) → IsText [] a → GivesText a x b → IsText text b → text ≡ x

@@ -1,5 +1,5 @@
 //! Laws of bytes that are handed in. Each function does nothing: its contract is the law.
-ghost use Rattle.byte_sink.specs.Laws.{PiecesJoin, TextsAreWhole, TextsGoOut};
+ghost use Rattle.byte_sink.specs.Laws.{PiecesJoin, TextsAreKept, TextsAreWhole, TextsGoOut};
 
 /// Pieces that are handed in one after another are one piece, and a stop within a piece is a stop within each longer
 /// one.
@@ -17,4 +17,9 @@ pub fn texts_are_whole()
 /// is told how much of it.
 pub fn texts_go_out()
     ensures { TextsGoOut }
+{}
+
+/// A text in memory that was empty holds at its end what was handed in.
+pub fn texts_are_kept()
+    ensures { TextsAreKept }
 {}

@@ -1,6 +1,6 @@
 //! A text in memory.
 ghost use Rattle.byte_sink.specs.Handing.{IsText};
-ghost use Rattle.std.specs.Prelude.{◌≡◌, [], IfOk, IfSome};
+ghost use Rattle.std.specs.Prelude.{◌≡◌, [], IfOk};
 
 use crate::takes::TakesBytes;
 use std::alloc::{AllocError, Global};
@@ -23,12 +23,12 @@ impl TextBytes {
         })
     }
 
-    /// The text. None where memory was short.
-    pub fn finish(self) -> Option<Vec<u8>>
-        ensures { IfSome result (λ v. IsText v.items self) }
+    /// The text.
+    pub fn finish(self) -> Result<Vec<u8>, AllocError>
+        ensures { IfOk result (λ v. IsText v.items self) }
     {
         let TextBytes { bytes, short } = self;
-        if short { None } else { Some(bytes) }
+        if short { Err(AllocError) } else { Ok(bytes) }
     }
 }
 

@@ -1,6 +1,7 @@
 -- The texts of lines.
-use Rattle.std.proofs.Common.{◌≡◌, ◌+◌, refl, sym, ◌∙◌, ap, arith}
-use Rattle.std.specs.Prelude.{ℕ, List, [], ◌∷◌, ◌++◌, map, take, drop, length, slice_index_or, codes}
+use Rattle.std.proofs.Common.{◌≡◌, ◌≤◌, ◌+◌, zero, suc, refl, sym, ◌∙◌, ap, arith}
+use Rattle.std.specs.Prelude.{ℕ, List, [], ◌∷◌, ◌++◌, map, take, drop, length, slice_get, slice_index_or}
+use Rattle.std.specs.Prelude.{Some, codes, unwrap_or}
 use Rattle.std.specs.List.{flat_map, join_with_byte}
 use Rattle.std.specs.Fmt.{decimal}
 use Rattle.std.proofs.lemmas.Grind.{flat_map-append}
@@ -18,8 +19,14 @@ use Rattle.tshape_data.specs.declared.reps.PointRep.TheVariants as point_reps
 use Rattle.tshape_data.specs.declared.head.VertexData.{VertexData}
 use Rattle.tshape_data.specs.declared.head.EdgeData.{EdgeData}
 use Rattle.tshape_data.specs.declared.head.Payload.TheVariants.{Vertex, Edge}
-use Rattle.written_heads.specs.Words.{entries_text, parameters_text, spaced, vertex_texts}
+use Rattle.written_heads.specs.Words.{decimals_text, entries_text, parameters_text, spaced, vertex_texts}
 use Rattle.written_heads.proofs.Digits.{digit_1, digit_2, digit_3}
+
+-- ---- a text at its place
+pub text_at : (texts : List (List ℕ)) (i : ℕ) (x : List ℕ) → slice_get texts i ≡ Some x → x ≡ slice_index_or texts i []
+text_at [] i x e = absurd cc
+text_at (y ∷ texts) zero x e = sym (ap (λ o. unwrap_or o y) e)
+text_at (y ∷ texts) (suc i) x e = text_at texts i x e
 
 -- ---- words on a line
 join_spaced : (x : List ℕ) (xs : List (List ℕ)) → join_with_byte 32 (x ∷ xs) ≡ x ++ spaced xs
@@ -138,18 +145,45 @@ module _ (renumber : ℕ → ℕ) where
       words (x ∷ y ∷ z ∷ ts) h = absurd (omega (arith, h))
 
 -- ---- lines of decimals
-pub uv_text : (texts : List (List ℕ)) → length texts ≡ 6 → line_text (drop 2 texts) ≡
+pub uv_text : (texts : List (List ℕ)) → 6 ≤ length texts → line_text (drop 2 (take 6 texts)) ≡
     (slice_index_or texts 2 [] ++ 32 ∷ [])
     ++ ((slice_index_or texts 3 [] ++ 32 ∷ [])
     ++ ((slice_index_or texts 4 [] ++ 32 ∷ []) ++ (slice_index_or texts 5 [] ++ 10 ∷ [])))
-uv_text (a ∷ b ∷ d ∷ e ∷ f ∷ g ∷ []) h = simp append_assoc
+uv_text (a ∷ b ∷ d ∷ e ∷ f ∷ g ∷ texts) h = simp append_assoc
 uv_text [] h = absurd (omega (arith, h))
 uv_text (a ∷ []) h = absurd (omega (arith, h))
 uv_text (a ∷ b ∷ []) h = absurd (omega (arith, h))
 uv_text (a ∷ b ∷ d ∷ []) h = absurd (omega (arith, h))
 uv_text (a ∷ b ∷ d ∷ e ∷ []) h = absurd (omega (arith, h))
 uv_text (a ∷ b ∷ d ∷ e ∷ f ∷ []) h = absurd (omega (arith, h))
-uv_text (a ∷ b ∷ d ∷ e ∷ f ∷ g ∷ k ∷ texts) h = absurd (omega (arith, h))
+
+pub range_text : (texts : List (List ℕ)) → 2 ≤ length texts
+    → 32 ∷ ((slice_index_or texts 0 [] ++ 32 ∷ []) ++ (slice_index_or texts 1 [] ++ 10 ∷ []))
+    ≡ spaced (take 2 texts) ++ 10 ∷ []
+range_text (a ∷ b ∷ texts) h =
+    ap (λ t. 32 ∷ t)
+    (append_assoc a (32 ∷ []) (b ++ 10 ∷ [])
+    ∙ sym (append_assoc a (32 ∷ (b ++ [])) (10 ∷ []) ∙ ap (λ t. a ++ 32 ∷ (t ++ 10 ∷ [])) (append-nil b)))
+range_text [] h = absurd (omega (arith, h))
+range_text (a ∷ []) h = absurd (omega (arith, h))
+
+pub range_alone : (texts : List (List ℕ)) → 2 ≤ length texts
+    → spaced (take 2 texts) ++ 10 ∷ [] ≡ decimals_text (take 2 texts)
+range_alone (a ∷ b ∷ texts) h = refl
+range_alone [] h = absurd (omega (arith, h))
+range_alone (a ∷ []) h = absurd (omega (arith, h))
+
+pub range_and_uv : (texts : List (List ℕ)) → 6 ≤ length texts
+    → (spaced (take 2 texts) ++ 10 ∷ []) ++ line_text (drop 2 (take 6 texts)) ≡ decimals_text (take 6 texts)
+range_and_uv (a ∷ b ∷ d ∷ e ∷ f ∷ g ∷ texts) h =
+    append_assoc (spaced (a ∷ b ∷ [])) (10 ∷ []) (line_text (d ∷ e ∷ f ∷ g ∷ []))
+    ∙ ap (λ t. spaced (a ∷ b ∷ []) ++ 10 ∷ t) (sym (append-nil (line_text (d ∷ e ∷ f ∷ g ∷ []))))
+range_and_uv [] h = absurd (omega (arith, h))
+range_and_uv (a ∷ []) h = absurd (omega (arith, h))
+range_and_uv (a ∷ b ∷ []) h = absurd (omega (arith, h))
+range_and_uv (a ∷ b ∷ d ∷ []) h = absurd (omega (arith, h))
+range_and_uv (a ∷ b ∷ d ∷ e ∷ []) h = absurd (omega (arith, h))
+range_and_uv (a ∷ b ∷ d ∷ e ∷ f ∷ []) h = absurd (omega (arith, h))
 
 pub vertex_lines : (texts : List (List ℕ)) → length texts ≡ 4 → vertex_texts texts ≡
     (slice_index_or texts 0 [] ++ 10 ∷ [])
@@ -162,16 +196,6 @@ vertex_lines (a ∷ []) h = absurd (omega (arith, h))
 vertex_lines (a ∷ b ∷ []) h = absurd (omega (arith, h))
 vertex_lines (a ∷ b ∷ d ∷ []) h = absurd (omega (arith, h))
 vertex_lines (a ∷ b ∷ d ∷ e ∷ f ∷ texts) h = absurd (omega (arith, h))
-
-pub four_more : (t0 t1 t2 t3 t4 a b d e : List ℕ) → t1 ≡ t0 ++ a ++ 10 ∷ [] → t2 ≡ t1 ++ b ++ 32 ∷ []
-    → t3 ≡ t2 ++ d ++ 32 ∷ [] → t4 ≡ t3 ++ e ++ 10 ∷ [] →
-    t4 ≡ t0 ++ ((a ++ 10 ∷ []) ++ ((b ++ 32 ∷ []) ++ ((d ++ 32 ∷ []) ++ (e ++ 10 ∷ []))))
-four_more t0 t1 t2 t3 t4 a b d e e1 e2 e3 e4 =
-    e4 ∙ ap (λ t. t ++ e ++ 10 ∷ []) (e3 ∙ ap (λ t. t ++ d ++ 32 ∷ []) (e2 ∙ ap (λ t. t ++ b ++ 32 ∷ []) e1)) ∙ in_row
-  where
-    in_row : ((((((((t0 ++ a) ++ 10 ∷ []) ++ b) ++ 32 ∷ []) ++ d) ++ 32 ∷ []) ++ e) ++ 10 ∷ []) ≡ t0
-        ++ ((a ++ 10 ∷ []) ++ ((b ++ 32 ∷ []) ++ ((d ++ 32 ∷ []) ++ (e ++ 10 ∷ []))))
-    in_row = simp append_assoc
 
 -- ---- data
 module _ (renumber : ℕ → ℕ) where

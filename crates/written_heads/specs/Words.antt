@@ -41,9 +41,9 @@ IsContinuous (edge_reps.Polygon polygon location) = Unit {0}
 IsContinuous (edge_reps.PolygonOn polygon_on mesh location) = Unit {0}
 IsContinuous (edge_reps.SeamPolygons first second mesh location) = Unit {0}
 
--- a representation of an edge with as many decimals as its form has, whose locations were added
+-- a representation of an edge with at least as many decimals as its form has in a version, whose locations were added
 pub record IsWritableEdge (s : WrittenLocations) (version : ℕ) (r : EdgeRep) : Type 0 where
-  pub texts : length (texts_of_edge r) ≡ edge_texts version (form_of_edge r)
+  pub texts : edge_texts version (form_of_edge r) ≤ length (texts_of_edge r)
   pub continuity : IsContinuous r
   pub locations : All (IsWritten s) (edge_locations r)
 
@@ -64,7 +64,7 @@ parameters_text version r = decimals_text (texts_in version r)
 unfoldable pub vertex_texts : List (List ℕ) → List ℕ
 vertex_texts texts = line_text (take 1 texts) ++ line_text (drop 1 texts)
 
--- data with as many decimals as they have in a version, whose locations were added
+-- data with at least as many decimals as they have in a version, whose locations were added
 abbrev pub IsWritablePayload : WrittenLocations → ℕ → Payload → Type 0
 IsWritablePayload s version (Vertex d) = (length d.texts ≡ 4) × All (IsWritablePoint s) d.points
 IsWritablePayload s version (Edge d) = (length d.tolerance ≡ 1) × All (IsWritableEdge s version) d.reps

@@ -1,94 +1,83 @@
-//! The words of a line, appended to a text.
+//! The words of a line, handed to what takes bytes.
 ghost use Rattle.brep_tokens.specs.Forms.{flag_text};
 ghost use Rattle.std.specs.Fmt.{decimal};
 ghost use Rattle.std.specs.List.{flat_map};
-ghost use Rattle.std.specs.Prelude.{◌≡◌, ◌<◌, ◌∷◌, ◌++◌, OnOk, length, slice_index_or, [], take};
+ghost use Rattle.std.specs.Prelude.{◌≡◌, ◌<◌, ◌∷◌, ◌++◌, length, slice_index_or, []};
 ghost use Rattle.tshape_data.specs.Flags.{flag_code, spell_flags};
 ghost use Rattle.tshape_data.specs.Parts.{continuity_text};
 ghost use Rattle.written_heads.specs.Words.{entries_text, IsWritten, located_text};
 ghost use Rattle.written_locations.specs.Added.{IsNumbering, location_number};
 
 use brep_tokens::Decimals;
+use byte_sink::{TakesBytes, push_byte};
 use itoa::Buffer;
-use std::alloc::AllocError;
 use tshape_data::Flags;
 use written_locations::WrittenLocations;
 
 /// A space and a number.
-pub(crate) fn push_number(text: &mut Vec<u8>, n: usize) -> Result<(), AllocError>
-    ensures { OnOk result (text.new.items ≡ text.old.items ++ 32 ∷ decimal n) }
+pub(crate) fn push_number<B: TakesBytes>(text: &mut B, n: usize)
+    ensures { B.gives text.old (32 ∷ decimal n) text.new }
 {
-    text.push(b' ')?;
+    push_byte(text, b' ');
     let mut buffer = Buffer::new();
-    text.extend_from_slice(buffer.format(n).as_bytes())
+    text.push(buffer.format(n).as_bytes());
 }
 
 /// A space before each of the numbers of entries.
-pub(crate) fn push_entries(text: &mut Vec<u8>, entries: &[u32]) -> Result<(), AllocError>
-    ensures { OnOk result (text.new.items ≡ text.old.items ++ entries_text entries.now) }
+pub(crate) fn push_entries<B: TakesBytes>(text: &mut B, entries: &[u32])
+    ensures { B.gives text.old (entries_text entries.now) text.new }
 {
     for entry in entries {
-        push_number(text, *entry as usize)?;
+        push_number(text, *entry as usize);
     }
-    Ok(())
 }
 
 /// A space and the written number of a location.
-pub(crate) fn push_location(
-    text: &mut Vec<u8>,
+pub(crate) fn push_location<B: TakesBytes>(
+    text: &mut B,
     location: u32,
     locations: &WrittenLocations<'_>,
-) -> Result<(), AllocError>
+)
     requires numbering { IsNumbering locations.now }
     requires written { IsWritten locations.now location }
-    ensures { OnOk result (text.new.items ≡ text.old.items ++ 32 ∷ decimal (location_number locations.now location)) }
+    ensures { B.gives text.old (32 ∷ decimal (location_number locations.now location)) text.new }
 {
     push_number(text, locations.number(location))
 }
 
 /// A space before each of the numbers of entries, and before the written number of a location.
-pub(crate) fn push_located(
-    text: &mut Vec<u8>,
+pub(crate) fn push_located<B: TakesBytes>(
+    text: &mut B,
     entries: &[u32],
     location: u32,
     locations: &WrittenLocations<'_>,
-) -> Result<(), AllocError>
+)
     requires numbering { IsNumbering locations.now }
     requires written { IsWritten locations.now location }
-    ensures { OnOk result (text.new.items ≡ text.old.items ++ located_text locations.now entries.now location) }
+    ensures { B.gives text.old (located_text locations.now entries.now location) text.new }
 {
-    push_entries(text, entries)?;
+    push_entries(text, entries);
     push_location(text, location, locations)
 }
 
 /// One of the decimals.
-pub(crate) fn push_text(
-    text: &mut Vec<u8>,
-    decimals: &Decimals,
-    at: usize,
-) -> Result<(), AllocError>
+pub(crate) fn push_text<B: TakesBytes>(text: &mut B, decimals: &Decimals, at: usize)
     requires { at < length decimals.now }
-    ensures { OnOk result (text.new.items ≡ text.old.items ++ slice_index_or decimals.now at []) }
+    ensures { B.gives text.old (slice_index_or decimals.now at []) text.new }
 {
-    if let Some(decimal) = decimals.get(at) {
-        text.extend_from_slice(decimal)?;
+    match decimals.get(at) {
+        Some(decimal) => text.push(decimal),
+        None => unreachable!(),
     }
-    Ok(())
 }
 
 /// One of the decimals, and a byte after it.
-pub(crate) fn push_decimal(
-    text: &mut Vec<u8>,
-    decimals: &Decimals,
-    at: usize,
-    end: u8,
-) -> Result<(), AllocError>
+pub(crate) fn push_decimal<B: TakesBytes>(text: &mut B, decimals: &Decimals, at: usize, end: u8)
     requires { at < length decimals.now }
-    ensures { OnOk result (text.new.items ≡ text.old.items ++ slice_index_or decimals.now at [] ++ end ∷ []) }
+    ensures { B.gives text.old (slice_index_or decimals.now at [] ++ end ∷ []) text.new }
 {
-    push_text(text, decimals, at)?;
-    text.push(end)?;
-    Ok(())
+    push_text(text, decimals, at);
+    push_byte(text, end);
 }
 
 /// The continuity word with a place among `C0`, `C1`, `C2`, `C3`, `CN`, `G1` and `G2`.

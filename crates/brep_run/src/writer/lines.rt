@@ -1,4 +1,4 @@
-//! The lines of a record, appended to a text.
+//! The lines of a record, handed to what takes bytes.
 ghost use Rattle.brep_file.specs.declared.uses.FileUse.{FileUse};
 ghost use Rattle.brep_run.specs.Completion.{ArePlaced, IsDataWithin, new_number, text_of_record, text_of_uses};
 ghost use Rattle.brep_run.specs.Layout.{heading};
@@ -7,7 +7,7 @@ ghost use Rattle.brep_tokens.specs.Written.{line_text};
 ghost use Rattle.expansion_laws.specs.Expansion.{IsNumberOf};
 ghost use Rattle.std.specs.Fmt.{decimal};
 ghost use Rattle.std.specs.List.{join_with_byte};
-ghost use Rattle.std.specs.Prelude.{◌≡◌, ◌∷◌, ◌++◌, ◌≤◌, All, OnOk, [], length};
+ghost use Rattle.std.specs.Prelude.{◌∷◌, ◌++◌, ◌≤◌, All, [], length};
 ghost use Rattle.tshape_data.specs.Locations.{data_locations};
 ghost use Rattle.tshape_data.specs.Sound.{IsSoundHead};
 ghost use Rattle.tshape_data.specs.declared.head_bounds.HeadBounds.{HeadBounds};
@@ -15,64 +15,63 @@ ghost use Rattle.written_locations.specs.Added.{IsAdded, IsNumbering, location_n
 
 use super::order::Order;
 use brep_file::{FileUse, Record};
+use byte_sink::{TakesBytes, push_byte};
 use itoa::Buffer;
 use orientation::{Turn, sign};
-use std::alloc::AllocError;
 use written_heads::push_head;
 use written_locations::WrittenLocations;
 
 /// A number in decimal digits.
-pub(crate) fn push_number(text: &mut Vec<u8>, n: usize) -> Result<(), AllocError>
-    ensures { OnOk result (text.new.items ≡ text.old.items ++ decimal n) }
+pub(crate) fn push_number<B: TakesBytes>(text: &mut B, n: usize)
+    ensures { B.gives text.old (decimal n) text.new }
 {
     let mut buffer = Buffer::new();
-    text.extend_from_slice(buffer.format(n).as_bytes())
+    text.push(buffer.format(n).as_bytes());
 }
 
 /// A section's word and the count of its entries on a line.
-pub(crate) fn push_heading(text: &mut Vec<u8>, word: &[u8], count: usize) -> Result<(), AllocError>
-    ensures { OnOk result (text.new.items ≡ text.old.items ++ line_text (heading word.now count)) }
+pub(crate) fn push_heading<B: TakesBytes>(text: &mut B, word: &[u8], count: usize)
+    ensures { B.gives text.old (line_text (heading word.now count)) text.new }
 {
-    text.extend_from_slice(word)?;
-    text.push(b' ')?;
-    push_number(text, count)?;
-    text.push(b'\n')?;
-    Ok(())
+    text.push(word);
+    push_byte(text, b' ');
+    push_number(text, count);
+    push_byte(text, b'\n');
 }
 
 /// A use of the record with a number at a location with a number, and a byte after it.
-pub(crate) fn push_use(
-    text: &mut Vec<u8>,
+pub(crate) fn push_use<B: TakesBytes>(
+    text: &mut B,
     turn: Turn,
     number: usize,
     location: usize,
     end: u8,
-) -> Result<(), AllocError>
-    ensures { OnOk result (let used : FileUse = record { turn = turn; number = number; location = location } in
-        text.new.items ≡ text.old.items ++ join_with_byte 32 (spell_use used) ++ end ∷ []) }
+)
+    ensures { let used : FileUse = record { turn = turn; number = number; location = location } in
+        B.gives text.old (join_with_byte 32 (spell_use used) ++ end ∷ []) text.new }
 {
-    text.push(sign(turn))?;
-    push_number(text, number)?;
-    text.push(b' ')?;
-    push_number(text, location)?;
-    text.push(end)?;
-    Ok(())
+    push_byte(text, sign(turn));
+    push_number(text, number);
+    push_byte(text, b' ');
+    push_number(text, location);
+    push_byte(text, end);
 }
 
 /// The uses of a record, each with a space after it.
-fn push_uses(
-    text: &mut Vec<u8>,
+fn push_uses<B: TakesBytes>(
+    text: &mut B,
     uses: &[FileUse],
     order: &Order,
     locations: &WrittenLocations<'_>,
-) -> Result<(), AllocError>
+)
     requires placed { ArePlaced (length order.now.places.items) order.now.numbers.items order.now.places.items }
     requires numbers { All (λ u. IsNumberOf (length order.now.places.items) u.number) uses.now }
     requires numbering { IsNumbering locations.now }
     requires within { All (λ u. u.location ≤ length locations.now.section.now) uses.now }
     requires added { All (λ u. IsAdded locations.now u.location) uses.now }
-    ensures { OnOk result (text.new.items ≡ text.old.items
-        ++ text_of_uses order.now.numbers.items order.now.places.items (location_number locations.now) uses.now) }
+    ensures { B.gives text.old
+        (text_of_uses order.now.numbers.items order.now.places.items (location_number locations.now) uses.now)
+        text.new }
 {
     for used in uses {
         push_use(
@@ -81,20 +80,19 @@ fn push_uses(
             order.new_number(used.number as usize),
             locations.number(used.location),
             b' ',
-        )?;
+        );
     }
-    Ok(())
 }
 
 /// The lines of a record in a file of a version, its uses by the new numbers of records, and its uses and its data by
 /// those of locations.
-pub(crate) fn push_record(
-    text: &mut Vec<u8>,
+pub(crate) fn push_record<B: TakesBytes>(
+    text: &mut B,
     source: &Record,
     version: u8,
     order: &Order,
     locations: &WrittenLocations<'_>,
-) -> Result<(), AllocError>
+)
     requires sound { (b : HeadBounds) × IsSoundHead b version source.now.head }
     requires placed { ArePlaced (length order.now.places.items) order.now.numbers.items order.now.places.items }
     requires numbers { All (λ u. IsNumberOf (length order.now.places.items) u.number) source.now.uses }
@@ -103,12 +101,11 @@ pub(crate) fn push_record(
     requires added { All (λ u. IsAdded locations.now u.location) source.now.uses }
     requires data_within { IsDataWithin (length locations.now.section.now) version source.now.head.payload }
     requires data_added { All (IsAdded locations.now) (data_locations version source.now.head.payload) }
-    ensures { OnOk result (text.new.items ≡ text.old.items
-        ++ text_of_record version order.now.numbers.items order.now.places.items (location_number locations.now)
-        source.now) }
+    ensures { B.gives text.old
+        (text_of_record version order.now.numbers.items order.now.places.items (location_number locations.now)
+        source.now) text.new }
 {
-    push_head(text, &source.head, version, locations)?;
-    push_uses(text, source.uses.as_slice(), order, locations)?;
-    text.extend_from_slice(b"*\n")?;
-    Ok(())
+    push_head(text, &source.head, version, locations);
+    push_uses(text, source.uses.as_slice(), order, locations);
+    text.push(b"*\n");
 }

@@ -13,6 +13,7 @@ use super::lines::{push_heading, push_number};
 use super::order::{Order, record_at};
 use super::tables::TableEntry;
 use brep_file::{File, FileUse};
+use byte_sink::{TakesBytes, push_byte};
 use itoa::Buffer;
 use location_table::{LocationEntry, Locations};
 use location_words::Pair;
@@ -78,68 +79,63 @@ pub(crate) fn locations_in<'a>(
 }
 
 /// The line of an entry that is a datum; of another entry nothing.
-fn push_if_datum(text: &mut Vec<u8>, entry: &LocationEntry) -> Result<(), AllocError>
+fn push_if_datum<B: TakesBytes>(text: &mut B, entry: &LocationEntry)
     requires { CanSpellLocation entry.now }
-    ensures { OnOk result (text.new.items ≡ text.old.items ++ datums_text (entry.now ∷ [])) }
+    ensures { B.gives text.old (datums_text (entry.now ∷ [])) text.new }
 {
     match entry {
         LocationEntry::Datum(_) => entry.push_to(text),
-        LocationEntry::Product(_) => Ok(()),
+        LocationEntry::Product(_) => {}
     }
 }
 
 /// The lines of a section's datums.
-fn push_datums(text: &mut Vec<u8>, section: &Locations) -> Result<(), AllocError>
+fn push_datums<B: TakesBytes>(text: &mut B, section: &Locations)
     requires { All CanSpellLocation section.now }
-    ensures { OnOk result (text.new.items ≡ text.old.items ++ datums_text section.now) }
+    ensures { B.gives text.old (datums_text section.now) text.new }
 {
     for entry in section.as_slice() {
-        push_if_datum(text, entry)?;
+        push_if_datum(text, entry);
     }
-    Ok(())
 }
 
 /// A power of a datum, with a space before each of the two numbers.
-fn push_pair(text: &mut Vec<u8>, pair: Pair) -> Result<(), AllocError>
-    ensures { OnOk result (text.new.items ≡ text.old.items ++ pair_text pair) }
+fn push_pair<B: TakesBytes>(text: &mut B, pair: Pair)
+    ensures { B.gives text.old (pair_text pair) text.new }
 {
-    text.push(b' ')?;
-    push_number(text, pair.datum as usize)?;
-    text.push(b' ')?;
+    push_byte(text, b' ');
+    push_number(text, pair.datum as usize);
+    push_byte(text, b' ');
     let mut buffer = Buffer::new();
-    text.extend_from_slice(buffer.format(pair.power).as_bytes())
+    text.push(buffer.format(pair.power).as_bytes());
 }
 
 /// The line of a word: the product of its pairs, innermost first.
-fn push_word(text: &mut Vec<u8>, pairs: &[Pair]) -> Result<(), AllocError>
-    ensures { OnOk result (text.new.items ≡ text.old.items ++ line_text (spell_location (product_of pairs.now))) }
+fn push_word<B: TakesBytes>(text: &mut B, pairs: &[Pair])
+    ensures { B.gives text.old (line_text (spell_location (product_of pairs.now))) text.new }
 {
-    text.push(b'2')?;
+    push_byte(text, b'2');
     for pair in pairs {
-        push_pair(text, *pair)?;
+        push_pair(text, *pair);
     }
-    text.extend_from_slice(b" 0\n")
+    text.push(b" 0\n");
 }
 
 /// The lines of the further words.
-fn push_words(text: &mut Vec<u8>, locations: &WrittenLocations<'_>) -> Result<(), AllocError>
+fn push_words<B: TakesBytes>(text: &mut B, locations: &WrittenLocations<'_>)
     requires { IsNumbering locations.now }
-    ensures { OnOk result (text.new.items ≡ text.old.items ++ words_text (further_of locations.now)) }
+    ensures { B.gives text.old (words_text (further_of locations.now)) text.new }
 {
     for i in 0..locations.len() {
-        push_word(text, locations.further(i).pairs())?;
+        push_word(text, locations.further(i).pairs());
     }
-    Ok(())
 }
 
 /// The section `Locations`: the datums, and then the further words.
-pub(crate) fn push_locations(
-    text: &mut Vec<u8>,
-    locations: &WrittenLocations<'_>,
-) -> Result<(), AllocError>
+pub(crate) fn push_locations<B: TakesBytes>(text: &mut B, locations: &WrittenLocations<'_>)
     requires numbering { IsNumbering locations.now }
     requires can { All CanSpellLocation locations.now.section.now }
-    ensures { OnOk result (text.new.items ≡ text.old.items ++ locations_text (locations_of locations.now)) }
+    ensures { B.gives text.old (locations_text (locations_of locations.now)) text.new }
 {
     sections_hold();
     added_parts_join();
@@ -148,8 +144,7 @@ pub(crate) fn push_locations(
         text,
         b"Locations",
         section.datums() as usize + locations.len(),
-    )?;
-    push_datums(text, section)?;
-    push_words(text, locations)?;
-    Ok(())
+    );
+    push_datums(text, section);
+    push_words(text, locations);
 }

@@ -10,57 +10,54 @@ ghost use Rattle.std.specs.Fmt.{decimal};
 ghost use Rattle.std.specs.Iterator.{Drains, IsFinite};
 ghost use Rattle.surface_tables.specs.Shapes.{CanSpellSurface};
 ghost use Rattle.surface_tables.specs.Spelling.{spell_surface};
-ghost use Rattle.std.specs.Prelude.{◌≡◌, ◌∷◌, ◌++◌, ℕ, All, List, OnOk, if◌then◌else◌};
+ghost use Rattle.std.specs.Prelude.{◌∷◌, ℕ, All, List, if◌then◌else◌};
 
 use super::lines::{push_heading, push_number};
 use brep_file::File;
 use brep_tokens::{Decimals, TokenText};
+use byte_sink::{TakesBytes, push_byte};
 use curve_tables::laws::curves_are_exact;
 use curve_tables::{Curve2, Curve3};
 use location_table::LocationEntry;
 use mesh_tables::laws::{meshes_are_exact, meshes_can_be_spelled};
 use mesh_tables::{Mesh, Polygon3, PolygonOnMesh};
-use std::alloc::AllocError;
 use surface_tables::Surface;
 use surface_tables::laws::surfaces_are_exact;
 
 /// A token, with a space before it unless it is the first of its line.
-fn push_token(text: &mut Vec<u8>, token: &TokenText, first: bool) -> Result<(), AllocError>
-    ensures { OnOk result (text.new.items ≡ text.old.items ++ (if first then token.now else 32 ∷ token.now)) }
+fn push_token<B: TakesBytes>(text: &mut B, token: &TokenText, first: bool)
+    ensures { B.gives text.old (if first then token.now else 32 ∷ token.now) text.new }
 {
-    if !first {
-        text.push(b' ')?;
+    if first {
+        text.push(token.bytes());
+    } else {
+        push_byte(text, b' ');
+        text.push(token.bytes());
     }
-    text.extend_from_slice(token.bytes())
 }
 
 /// Tokens on a line, one space between neighbours.
-fn push_line<I: Iterator<Item = TokenText> + Drop>(
-    text: &mut Vec<u8>,
-    tokens: I,
-) -> Result<(), AllocError>
+fn push_line<B: TakesBytes, I: Iterator<Item = TokenText> + Drop>(text: &mut B, tokens: I)
     requires can { I.can_next tokens }
     requires ends { IsFinite (I.remaining tokens) }
-    ensures { OnOk result ((words : List (List ℕ)) × Drains I.next_gives tokens words
-        × (text.new.items ≡ text.old.items ++ line_text words)) }
+    ensures { (words : List (List ℕ)) × Drains I.next_gives tokens words
+        × B.gives text.old (line_text words) text.new }
 {
     let mut first = true;
     for token in tokens {
-        push_token(text, &token, first)?;
+        push_token(text, &token, first);
         first = false;
     }
-    text.push(b'\n')?;
-    Ok(())
+    push_byte(text, b'\n');
 }
 
 /// A number and the decimals behind it, on a line.
-fn push_numbered(text: &mut Vec<u8>, number: u8, decimals: &Decimals) -> Result<(), AllocError>
-    ensures { OnOk result (text.new.items ≡ text.old.items ++ line_text (decimal number ∷ decimals.now)) }
+fn push_numbered<B: TakesBytes>(text: &mut B, number: u8, decimals: &Decimals)
+    ensures { B.gives text.old (line_text (decimal number ∷ decimals.now)) text.new }
 {
-    push_number(text, number as usize)?;
-    text.extend_from_slice(decimals.spaced())?;
-    text.push(b'\n')?;
-    Ok(())
+    push_number(text, number as usize);
+    text.push(decimals.spaced());
+    push_byte(text, b'\n');
 }
 
 /// An entry of a table.
@@ -72,9 +69,9 @@ pub(crate) trait TableEntry {
     ghost can_spell: { Self → Type 0 };
 
     /// Its tokens on a line.
-    fn push_to(&self, text: &mut Vec<u8>) -> Result<(), AllocError>
+    fn push_to<B: TakesBytes>(&self, text: &mut B)
         requires { can_spell self.now }
-        ensures { OnOk result (text.new.items ≡ text.old.items ++ line_text (spelling self.now)) };
+        ensures { B.gives text.old (line_text (spelling self.now)) text.new };
 }
 
 impl TableEntry for LocationEntry {
@@ -85,7 +82,7 @@ impl TableEntry for LocationEntry {
 
     ghost can_spell = { CanSpellLocation };
 
-    fn push_to(&self, text: &mut Vec<u8>) -> Result<(), AllocError> {
+    fn push_to<B: TakesBytes>(&self, text: &mut B) {
         push_line(text, self.spell())
     }
 }
@@ -98,7 +95,7 @@ impl TableEntry for Curve2 {
 
     ghost can_spell = { CanSpell2 };
 
-    fn push_to(&self, text: &mut Vec<u8>) -> Result<(), AllocError> {
+    fn push_to<B: TakesBytes>(&self, text: &mut B) {
         match self {
             Curve2::Plain { code, texts } => push_numbered(text, *code, texts),
             _ => push_line(text, self.spell()),
@@ -114,7 +111,7 @@ impl TableEntry for Curve3 {
 
     ghost can_spell = { CanSpell3 };
 
-    fn push_to(&self, text: &mut Vec<u8>) -> Result<(), AllocError> {
+    fn push_to<B: TakesBytes>(&self, text: &mut B) {
         match self {
             Curve3::Plain { code, texts } => push_numbered(text, *code, texts),
             _ => push_line(text, self.spell()),
@@ -130,7 +127,7 @@ impl TableEntry for Polygon3 {
 
     ghost can_spell = { CanSpellPolygon };
 
-    fn push_to(&self, text: &mut Vec<u8>) -> Result<(), AllocError> {
+    fn push_to<B: TakesBytes>(&self, text: &mut B) {
         push_line(text, self.spell())
     }
 }
@@ -143,7 +140,7 @@ impl TableEntry for PolygonOnMesh {
 
     ghost can_spell = { CanSpellPolygonOn };
 
-    fn push_to(&self, text: &mut Vec<u8>) -> Result<(), AllocError> {
+    fn push_to<B: TakesBytes>(&self, text: &mut B) {
         push_line(text, self.spell())
     }
 }
@@ -156,7 +153,7 @@ impl TableEntry for Surface {
 
     ghost can_spell = { CanSpellSurface };
 
-    fn push_to(&self, text: &mut Vec<u8>) -> Result<(), AllocError> {
+    fn push_to<B: TakesBytes>(&self, text: &mut B) {
         match self {
             Surface::Plain { code, texts } => push_numbered(text, *code, texts),
             _ => push_line(text, self.spell()),
@@ -172,45 +169,39 @@ impl TableEntry for Mesh {
 
     ghost can_spell = { CanSpellMesh };
 
-    fn push_to(&self, text: &mut Vec<u8>) -> Result<(), AllocError> {
+    fn push_to<B: TakesBytes>(&self, text: &mut B) {
         push_line(text, self.spell())
     }
 }
 
 /// A section: its heading, and each entry on a line.
-fn push_section<T: TableEntry>(
-    text: &mut Vec<u8>,
-    word: &[u8],
-    entries: &[T],
-) -> Result<(), AllocError>
+fn push_section<B: TakesBytes, T: TableEntry>(text: &mut B, word: &[u8], entries: &[T])
     requires { All T.can_spell entries.now }
-    ensures { OnOk result (text.new.items ≡ text.old.items ++ section_text word.now T.spelling entries.now) }
+    ensures { B.gives text.old (section_text word.now T.spelling entries.now) text.new }
 {
-    push_heading(text, word, entries.len())?;
+    push_heading(text, word, entries.len());
     for entry in entries {
-        entry.push_to(text)?;
+        entry.push_to(text);
     }
-    Ok(())
 }
 
 /// The sections after the locations and before the records.
-pub(crate) fn push_tables(text: &mut Vec<u8>, file: &File) -> Result<(), AllocError>
+pub(crate) fn push_tables<B: TakesBytes>(text: &mut B, file: &File)
     requires { IsSound file.now }
-    ensures { OnOk result (text.new.items ≡ text.old.items ++ lines_text (table_lines file.now)) }
+    ensures { B.gives text.old (lines_text (table_lines file.now)) text.new }
 {
     curves_are_exact();
     surfaces_are_exact();
     meshes_are_exact();
     meshes_can_be_spelled();
-    push_section(text, b"Curve2ds", file.curve2s.as_slice())?;
-    push_section(text, b"Curves", file.curves.as_slice())?;
-    push_section(text, b"Polygon3D", file.polygons.as_slice())?;
+    push_section(text, b"Curve2ds", file.curve2s.as_slice());
+    push_section(text, b"Curves", file.curves.as_slice());
+    push_section(text, b"Polygon3D", file.polygons.as_slice());
     push_section(
         text,
         b"PolygonOnTriangulations",
         file.polygons_on.as_slice(),
-    )?;
-    push_section(text, b"Surfaces", file.surfaces.as_slice())?;
-    push_section(text, b"Triangulations", file.meshes.as_slice())?;
-    Ok(())
+    );
+    push_section(text, b"Surfaces", file.surfaces.as_slice());
+    push_section(text, b"Triangulations", file.meshes.as_slice());
 }

@@ -1,7 +1,13 @@
-use Rattle.std.proofs.Common.{arith}
-use Rattle.std.proofs.lemmas.Grind.{common_steps}
+use Rattle.std.proofs.Common.{sym}
+use Rattle.byte_sink.proofs.Joining.{as_text}
 use Rattle.written_heads.proofs.LineLemmas.{uv_text}
 use Rattle.written_heads.proofs.edges.push_uv.Goals as goal
 
 pub returns : goal.returns
-returns c = let e = uv_text c.args.texts.now c.requires in rw e (grind (arith, common_steps))
+returns g c =
+    let joins = g.met.B.TakesBytes.joins in
+    as_text joins _ _ _ _
+    (joins.joined _ _ _ _ _ c.push_decimal.ensures
+    (joins.joined _ _ _ _ _ c.push_decimal-2.ensures
+    (joins.joined _ _ _ _ _ c.push_decimal-3.ensures c.push_decimal-4.ensures)))
+    (sym (uv_text c.args.texts.now c.requires))

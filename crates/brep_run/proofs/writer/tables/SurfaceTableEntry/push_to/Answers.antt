@@ -1,12 +1,21 @@
-use Rattle.std.proofs.Common.{◌∙◌, ◌++◌, sym, ap}
-use Rattle.std.proofs.lemmas.Result.{on_ok_weaker}
+use Rattle.std.proofs.Common.{◌∙◌, ap, sym}
 use Rattle.brep_tokens.specs.Written.{line_text}
+use Rattle.surface_tables.specs.Spelling.{spell_surface}
 use Rattle.surface_tables.specs.SpellLeft.{tokens_left}
+use Rattle.surface_tables.specs.declared.surface.Surface.{Surface}
+use Rattle.byte_sink.proofs.Joining.{as_text}
 use Rattle.brep_run.proofs.LocationLoops.{drains-first}
 use Rattle.brep_run.proofs.writer.tables.SurfaceTableEntry.push_to.Goals as goal
 
+pub returns-in-Plain : goal.returns-in-Plain
+returns-in-Plain g c =
+    as_text g.met.B.TakesBytes.joins _ _ _ _
+    c.push_numbered.ensures
+    (ap (λ (e : Surface). line_text (spell_surface e)) (sym c.in-Plain.is))
+
 pub returns-in_default : goal.returns-in_default
-returns-in_default c =
-    on_ok_weaker c.push_line.result
-    (λ h. h.2 ∙ ap (λ w. c.args.text.now.items ++ line_text w)
-    (sym (drains-first tokens_left c.spell.result h.0 h.1) ∙ c.spell.ensures.left)) c.push_line.ensures
+returns-in_default g c =
+    let given = c.push_line.ensures in
+    as_text g.met.B.TakesBytes.joins _ _ _ _
+    given.2
+    (ap line_text (sym (drains-first tokens_left c.spell.result given.0 given.1) ∙ c.spell.ensures.left))
