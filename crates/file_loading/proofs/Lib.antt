@@ -2,3 +2,4 @@ pub mod PlaceLaws
 pub mod UseLaws
 pub mod SoundFiles
 pub mod LoadLaws
+pub mod StayLaws

@@ -1,7 +1,8 @@
 //! The records of a file as nodes of a pool.
 ghost use Rattle.brep_file.specs.Sound.{IsSound, IsWithinLimits};
 ghost use Rattle.brep_file.specs.PlainRecords.{expansion_of};
-ghost use Rattle.file_loading.specs.Loading.{use_in, AreLoadedUses, HasOriginsOf, IsLoadedFrom, IsLoadedTo, IsLoadedUse};
+ghost use Rattle.file_loading.specs.Loading.{use_in, AreLoadedUses, IsLoadedUse};
+ghost use Rattle.file_loading.specs.Loading.{HasOriginsOf, IsLoadedFrom, IsLoadedTo};
 ghost use Rattle.file_loading.specs.Places.{HoldWordsOf, KeepsWords};
 ghost use Rattle.location_words.specs.Tables.{IsTable};
 ghost use Rattle.std.specs.Prelude.{◌≡◌, ◌<◌, ◌≤◌, ◌+◌, ◌∷◌, [], All, IfOk, OnOk, length};
