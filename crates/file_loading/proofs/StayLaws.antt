@@ -45,6 +45,9 @@ module _ (words new_words : List (List Pair)) (rows new_rows : List Row) (laws :
 
 pub loading-stays : LoadingStays
 loading-stays = record {
+  words = λ words new_words i kept lt. word-stays words new_words kept i lt;
+  trees = λ words new_words rows new_rows i laws places grown lt.
+      tree-stays words new_words rows new_rows laws places grown i lt;
   loaded = λ f words new_words rows new_rows laws loaded grown.
       file-stays words new_words rows new_rows laws loaded.places grown f loaded;
   uses = λ words new_words rows new_rows u laws places grown held named.
