@@ -12,7 +12,8 @@ use Rattle.script_text.specs.Lines.{script_lines}
 use Rattle.script_text.specs.Meaning.{command_of_line}
 use Rattle.script_text.specs.Writing.{HasLine}
 use Rattle.script_text.specs.declared.command.Command.{Command}
-use Rattle.script_text.specs.declared.command.Command.TheVariants.{Replace, Remove, Merge, Sew, Apply, Undo}
+use Rattle.script_text.specs.declared.command.Command.TheVariants.{Replace, Remove, Merge, Sew, Apply, Undo, Until, Prune}
+use Rattle.script_text.specs.declared.command.Command.TheVariants.{OutputFirst}
 use Rattle.script_text.specs.declared.command.LineFault.{LineFault}
 use Rattle.brep_run.specs.declared.script.ScriptStop.{ScriptStop}
 use Rattle.brep_run.specs.declared.script.ScriptStop.TheVariants as stops
@@ -135,6 +136,9 @@ module _ (shapes locations : ℕ) (written : CommandsAreWritten shapes locations
   removal-in (Sew names) k e has = cc
   removal-in Apply k e has = cc
   removal-in Undo k e has = cc
+  removal-in (Until kind) k e has = cc
+  removal-in Prune k e has = cc
+  removal-in OutputFirst k e has = cc
 
   both-in : (c : Command) (o : Option ℕ) (rest : Option (List ℕ)) (numbers : List ℕ) → removal_of c ≡ o
       → HasLine shapes locations c →

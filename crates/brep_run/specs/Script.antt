@@ -8,7 +8,8 @@ use Rattle.orientation.specs.declared.turn.Turn.{Turn}
 use Rattle.script_text.specs.Lines.{script_lines}
 use Rattle.script_text.specs.Meaning.{command_of_line}
 use Rattle.script_text.specs.declared.command.Command.{Command}
-use Rattle.script_text.specs.declared.command.Command.TheVariants.{Replace, Remove, Merge, Sew, Apply, Undo}
+use Rattle.script_text.specs.declared.command.Command.TheVariants.{Replace, Remove, Merge, Sew, Apply, Undo, Until, Prune}
+use Rattle.script_text.specs.declared.command.Command.TheVariants.{OutputFirst}
 use Rattle.script_text.specs.declared.command.LineFault.{LineFault}
 use Rattle.script_text.specs.declared.command.LineFault.TheVariants.{Syntax, NoSuchShape, NoSuchLocation, NoMemory}
 
@@ -56,6 +57,9 @@ removal_of (Merge names) = None
 removal_of (Sew names) = None
 removal_of Apply = None
 removal_of Undo = None
+removal_of (Until kind) = None
+removal_of Prune = None
+removal_of OutputFirst = None
 
 abbrev pub before_numbers : Option ℕ → Option (List ℕ) → Option (List ℕ)
 before_numbers (Some k) (Some ks) = Some (k ∷ ks)

@@ -1,7 +1,7 @@
 //! Commands in words: a turn by its sign, and `.` for what isn't said.
 
 use crate::saying::{add, add_number};
-use orientation::{Turn, sign};
+use orientation::{Turn, kind_name, sign};
 use script_text::{Command, LineFault, Names, Sel, SignedName, SignedNames, Tgt};
 use std::alloc::{AllocError, Global};
 
@@ -72,6 +72,12 @@ pub fn add_command(said: &mut String, alloc: Global, command: &Command) -> Resul
         }
         Command::Apply => add(said, "apply"),
         Command::Undo => add(said, "undo"),
+        Command::Until(kind) => {
+            add(said, "until")?;
+            add(said, str::from_utf8(kind_name(*kind)).unwrap_or("?"))
+        }
+        Command::Prune => add(said, "prune"),
+        Command::OutputFirst => add(said, "output first"),
     }
 }
 

@@ -15,7 +15,8 @@ use Rattle.script_text.specs.declared.command.LineFault.{LineFault}
 use Rattle.script_text.specs.declared.command.LineFault.TheVariants.{Syntax, NoSuchShape, NoSuchLocation, NoMemory}
 use Rattle.script_text.specs.declared.phrase.Mention.{Mention}
 use Rattle.script_text.specs.declared.phrase.Phrase.{Phrase}
-use Rattle.script_text.specs.declared.phrase.Phrase.TheVariants.{Replace, Remove, Merge, Sew, Apply, Undo}
+use Rattle.script_text.specs.declared.phrase.Phrase.TheVariants.{Replace, Remove, Merge, Sew, Apply, Undo, Until, Prune}
+use Rattle.script_text.specs.declared.phrase.Phrase.TheVariants.{OutputFirst}
 use Rattle.script_text.proofs.ReadingParts.{none_some, some_is}
 use Rattle.script_text.proofs.ReadingWhole.{phrase_back, phrase_there}
 
@@ -29,6 +30,9 @@ spelling_says (Merge ms) = refl
 spelling_says (Sew ms) = refl
 spelling_says Apply = refl
 spelling_says Undo = refl
+spelling_says (Until kind) = refl
+spelling_says Prune = refl
+spelling_says OutputFirst = refl
 
 not_nothing : (words : List (List ℕ)) (p : Phrase) → is_nothing words ≡ true → Spells words p → ⊥
 not_nothing words p nothing is = true_false (sym nothing ∙ ap is_nothing is.spelled ∙ spelling_says p)
@@ -90,6 +94,9 @@ fault_range shapes locations (Merge ms) = mentions_range shapes ms
 fault_range shapes locations (Sew ms) = mentions_range shapes ms
 fault_range shapes locations Apply = tt
 fault_range shapes locations Undo = tt
+fault_range shapes locations (Until kind) = tt
+fault_range shapes locations Prune = tt
+fault_range shapes locations OutputFirst = tt
 
 no_syntax : (o : Option LineFault) → IsRange o → o ≡ Some Syntax → ⊥
 unfolding IsRange

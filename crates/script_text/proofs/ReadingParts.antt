@@ -11,10 +11,14 @@ use Rattle.std.proofs.lemmas.List.{append-nil}
 use Rattle.std.proofs.lemmas.Slice.Eq.{slice_eq-Decides}
 use Rattle.brep_tokens.specs.Forms.{number_of}
 use Rattle.brep_tokens.specs.Laws.{FormsAreExact}
+use Rattle.orientation.specs.Kinds.{kind_of_letters, kind_of_name, name_of}
 use Rattle.orientation.specs.Turns.{sign_of, turn_of}
+use Rattle.orientation.specs.declared.kind.Kind.{Kind}
+use Rattle.orientation.specs.declared.kind.Kind.TheVariants.{Ve, Ed, Wi, Fa, Sh, So, CS, Co}
 use Rattle.orientation.specs.declared.turn.Turn.{Turn}
 use Rattle.orientation.specs.declared.turn.Turn.TheVariants.{Forward, Reversed, Internal, External}
-use Rattle.script_text.specs.Reading.{after_word, alone, before, given, mention_in, mention_of, mentions_from}
+use Rattle.script_text.specs.Reading.{after_word, alone, before, given, kind_in, mention_in, mention_of}
+use Rattle.script_text.specs.Reading.{mentions_from}
 use Rattle.script_text.specs.Reading.{number_after, number_in, signed_mention, with_sign}
 use Rattle.script_text.specs.Spelling.{IsShort, IsShortMention, MayBeShort, spell_mention, spell_number}
 use Rattle.script_text.specs.Words.{is_word}
@@ -49,6 +53,47 @@ after_word_there word (w ∷ ws) rest e = after_word_if (is_word w word) word w 
 pub alone_there : (p q : Phrase) (ws : List (List ℕ)) → alone p ws ≡ Some q → (ws ≡ []) × (p ≡ q)
 alone_there p q [] e = (refl, some_is p q e)
 alone_there p q (w ∷ ws) e = absurd (none_some None q refl e)
+
+letters_there : (a b : ℕ) (k : Kind) → kind_of_letters a b ≡ Some k → a ∷ b ∷ [] ≡ name_of k
+letters_there a b Ve e = grind (arith, nat_tests)
+letters_there a b Ed e = grind (arith, nat_tests)
+letters_there a b Wi e = grind (arith, nat_tests)
+letters_there a b Fa e = grind (arith, nat_tests)
+letters_there a b Sh e = grind (arith, nat_tests)
+letters_there a b So e = grind (arith, nat_tests)
+letters_there a b CS e = grind (arith, nat_tests)
+letters_there a b Co e = grind (arith, nat_tests)
+
+kind_there : (w : List ℕ) (k : Kind) → kind_of_name w ≡ Some k → w ≡ name_of k
+kind_there [] k e = absurd (none_some None k refl e)
+kind_there (a ∷ []) k e = absurd (none_some None k refl e)
+kind_there (a ∷ b ∷ []) k e = letters_there a b k e
+kind_there (a ∷ b ∷ c ∷ rest) k e = absurd (none_some None k refl e)
+
+kind_back : (k : Kind) → kind_of_name (name_of k) ≡ Some k
+kind_back Ve = refl
+kind_back Ed = refl
+kind_back Wi = refl
+kind_back Fa = refl
+kind_back Sh = refl
+kind_back So = refl
+kind_back CS = refl
+kind_back Co = refl
+
+before_some : {A : Type 0} (ws : List (List ℕ)) (o : Option A) (r : A × List (List ℕ)) → before ws o ≡ Some r
+    → (o ≡ Some r.0) × (ws ≡ r.1)
+before_some ws None r e = absurd (none_some None r refl e)
+before_some ws (Some x) r e = let p = some_is (x, ws) r e in
+    (ap (λ (q : _ × List (List ℕ)). Some q.0) p, ap (λ (q : _ × List (List ℕ)). q.1) p)
+
+pub kind_in_there : (ws : List (List ℕ)) (r : Kind × List (List ℕ)) → kind_in ws ≡ Some r → ws ≡ name_of r.0 ∷ r.1
+kind_in_there [] r e = absurd (none_some None r refl e)
+kind_in_there (w ∷ ws) r e =
+    let s = before_some ws (kind_of_name w) r e in
+    ap (λ (z : List ℕ). z ∷ ws) (kind_there w r.0 s.0) ∙ ap (λ (z : List (List ℕ)). name_of r.0 ∷ z) s.1
+
+pub kind_in_back : (k : Kind) (rest : List (List ℕ)) → kind_in (name_of k ∷ rest) ≡ Some (k, rest)
+kind_in_back k rest = ap (before rest) (kind_back k)
 
 pub record AreMentions (ms : List Mention) (ws : List (List ℕ)) (ns : List Mention) : Type 0 where
   pub some : List Mention
@@ -140,12 +185,6 @@ module _ (forms : FormsAreExact) where
   mention_back m short = mention_by m.sign m.number short
 
   -- ---- some words, and those that follow
-
-  before_some : {A : Type 0} (ws : List (List ℕ)) (o : Option A) (r : A × List (List ℕ)) → before ws o ≡ Some r
-      → (o ≡ Some r.0) × (ws ≡ r.1)
-  before_some ws None r e = absurd (none_some None r refl e)
-  before_some ws (Some x) r e = let p = some_is (x, ws) r e in
-      (ap (λ (q : _ × List (List ℕ)). Some q.0) p, ap (λ (q : _ × List (List ℕ)). q.1) p)
 
   pub mention_in_there : (ws : List (List ℕ)) (r : Mention × List (List ℕ)) → mention_in ws ≡ Some r
       → (ws ≡ spell_mention r.0 ∷ r.1) × IsShortMention r.0

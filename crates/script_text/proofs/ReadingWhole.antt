@@ -7,21 +7,26 @@ use Rattle.std.specs.Option.{option_and_then}
 use Rattle.std.proofs.lemmas.Bool.{le-leb, leb-true}
 use Rattle.std.proofs.lemmas.List.{append-nil}
 use Rattle.brep_tokens.specs.Laws.{FormsAreExact}
+use Rattle.orientation.specs.Kinds.{name_of}
+use Rattle.orientation.specs.declared.kind.Kind.{Kind}
 use Rattle.orientation.specs.declared.turn.Turn.{Turn}
 use Rattle.orientation.specs.declared.turn.Turn.TheVariants.{Forward, Reversed, Internal, External}
 use Rattle.script_text.specs.Reading.{after_word, alone, are_distinct, are_named, are_sewn, is_bare, may_be_side}
-use Rattle.script_text.specs.Reading.{mention_in, mentions_from, merge_of, number_after, phrase_after, phrase_of}
+use Rattle.script_text.specs.Reading.{kind_in, mention_in, mentions_from, merge_of, number_after, output_in}
+use Rattle.script_text.specs.Reading.{phrase_after, phrase_of, stop_in}
 use Rattle.script_text.specs.Reading.{removal_in, replacement_in, sewing_of, target_in, verb_of}
 use Rattle.script_text.specs.Spelling.{AreNamed, AreSewn, IsBare, IsLegal, IsShortMention, IsSided, MayBeShort, Spells}
 use Rattle.script_text.specs.Spelling.{spell_mention, spell_number, spelling}
 use Rattle.script_text.specs.Words.{is_word}
 use Rattle.script_text.specs.declared.phrase.Mention.{Mention}
 use Rattle.script_text.specs.declared.phrase.Phrase.{Phrase}
-use Rattle.script_text.specs.declared.phrase.Phrase.TheVariants.{Replace, Remove, Merge, Sew, Apply, Undo}
+use Rattle.script_text.specs.declared.phrase.Phrase.TheVariants.{Replace, Remove, Merge, Sew, Apply, Undo, Until, Prune}
+use Rattle.script_text.specs.declared.phrase.Phrase.TheVariants.{OutputFirst}
 use Rattle.script_text.specs.declared.reading.Verb.{Verb}
 use Rattle.script_text.specs.declared.reading.Verb.TheVariants as verbs
 use Rattle.script_text.proofs.Distinct.{distinct_Decides}
-use Rattle.script_text.proofs.ReadingParts.{after_word_there, alone_there, bound, mention_in_back, mention_in_there}
+use Rattle.script_text.proofs.ReadingParts.{after_word_there, alone_there, bound, kind_in_back, kind_in_there}
+use Rattle.script_text.proofs.ReadingParts.{mention_in_back, mention_in_there}
 use Rattle.script_text.proofs.ReadingParts.{mentions_back, mentions_there, none_some, number_after_back}
 use Rattle.script_text.proofs.ReadingParts.{number_after_there, number_back, some_is, word_is}
 
@@ -88,6 +93,29 @@ named_back ms named = rw (le-leb 2 (length ms) named.some) ((distinct_Decides ms
 if_some : (x : Bool) (p q : Phrase) → (if x then Some p else None) ≡ Some q → (x ≡ true) × (p ≡ q)
 if_some true p q e = (refl, some_is p q e)
 if_some false p q e = absurd (none_some None q refl e)
+
+stop_there : (ws : List (List ℕ)) (p : Phrase) → stop_in ws ≡ Some p → Spells (codes "until" ∷ ws) p
+stop_there ws p e =
+    let k = bound (λ (r : Kind × List (List ℕ)). alone (Until r.0) r.1) (kind_in ws) p e in
+    let last = alone_there (Until k.0.0) p k.0.1 k.2 in
+    subst (Spells (codes "until" ∷ ws)) last.1 (record {
+      spelled = ap (λ (z : List (List ℕ)). codes "until" ∷ z)
+          (kind_in_there ws k.0 k.1 ∙ ap (λ (z : List (List ℕ)). name_of k.0.0 ∷ z) last.0);
+      legal = tt;
+    })
+
+output_there : (ws : List (List ℕ)) (p : Phrase) → output_in ws ≡ Some p → Spells (codes "output" ∷ ws) p
+output_there ws p e =
+    let v = bound (λ (number : List (List ℕ)). option_and_then (alone OutputFirst) (after_word (codes "1") number))
+    (after_word (codes "version") ws) p e in
+    let n = bound (alone OutputFirst) (after_word (codes "1") v.0) p v.2 in
+    let last = alone_there OutputFirst p n.0 n.2 in
+    subst (Spells (codes "output" ∷ ws)) last.1 (record {
+      spelled = ap (λ (z : List (List ℕ)). codes "output" ∷ z)
+          (after_word_there (codes "version") ws v.0 v.1 ∙ ap (λ (z : List (List ℕ)). codes "version" ∷ z)
+          (after_word_there (codes "1") v.0 n.0 n.1 ∙ ap (λ (z : List (List ℕ)). codes "1" ∷ z) last.0));
+      legal = tt;
+    })
 
 module _ (forms : FormsAreExact) where
   -- ---- what is read is spelled
@@ -196,6 +224,9 @@ module _ (forms : FormsAreExact) where
   verb_text verbs.Sew = codes "sew"
   verb_text verbs.Apply = codes "apply"
   verb_text verbs.Undo = codes "undo"
+  verb_text verbs.Until = codes "until"
+  verb_text verbs.Prune = codes "prune"
+  verb_text verbs.Output = codes "output"
 
   verb_if : (x : Bool) (text w : List ℕ) (a v : Verb) (o : Option Verb) → is_word w text ≡ x → text ≡ verb_text a
       → (o ≡ Some v → w ≡ verb_text v) → (if x then Some a else o) ≡ Some v → w ≡ verb_text v
@@ -212,8 +243,11 @@ module _ (forms : FormsAreExact) where
       (verb_if (is_word w (codes "merge")) (codes "merge") w verbs.Merge v _ refl refl
       (verb_if (is_word w (codes "sew")) (codes "sew") w verbs.Sew v _ refl refl
       (verb_if (is_word w (codes "apply")) (codes "apply") w verbs.Apply v _ refl refl
-      (verb_if (is_word w (codes "undo")) (codes "undo") w verbs.Undo v None refl refl
-      (none_some_word w v)))))) e
+      (verb_if (is_word w (codes "undo")) (codes "undo") w verbs.Undo v _ refl refl
+      (verb_if (is_word w (codes "until")) (codes "until") w verbs.Until v _ refl refl
+      (verb_if (is_word w (codes "prune")) (codes "prune") w verbs.Prune v _ refl refl
+      (verb_if (is_word w (codes "output")) (codes "output") w verbs.Output v None refl refl
+      (none_some_word w v))))))))) e
 
   after_there : (v : Verb) (ws : List (List ℕ)) (p : Phrase) → phrase_after (Some v) ws ≡ Some p
       → Spells (verb_text v ∷ ws) p
@@ -229,6 +263,12 @@ module _ (forms : FormsAreExact) where
       let last = alone_there Undo p ws e in
       subst (Spells (codes "undo" ∷ ws)) last.1
       (record { spelled = ap (λ (z : List (List ℕ)). codes "undo" ∷ z) last.0; legal = tt })
+  after_there verbs.Until ws p e = stop_there ws p e
+  after_there verbs.Prune ws p e =
+      let last = alone_there Prune p ws e in
+      subst (Spells (codes "prune" ∷ ws)) last.1
+      (record { spelled = ap (λ (z : List (List ℕ)). codes "prune" ∷ z) last.0; legal = tt })
+  after_there verbs.Output ws p e = output_there ws p e
 
   verb_first : (o : Option Verb) (w : List ℕ) (ws : List (List ℕ)) (p : Phrase) → verb_of w ≡ o
       → phrase_after o ws ≡ Some p → Spells (w ∷ ws) p
@@ -299,6 +339,10 @@ module _ (forms : FormsAreExact) where
   phrase_of_spelling (Sew ms) legal = sewing_back ms legal.0 legal.1
   phrase_of_spelling Apply legal = refl
   phrase_of_spelling Undo legal = refl
+  phrase_of_spelling (Until kind) legal =
+      ap (option_and_then (λ (r : Kind × List (List ℕ)). alone (Until r.0) r.1)) (kind_in_back kind [])
+  phrase_of_spelling Prune legal = refl
+  phrase_of_spelling OutputFirst legal = refl
 
   pub phrase_back : (ws : List (List ℕ)) (p : Phrase) → Spells ws p → phrase_of ws ≡ Some p
   phrase_back ws p is = ap phrase_of is.spelled ∙ phrase_of_spelling p is.legal

@@ -25,7 +25,8 @@ use Rattle.script_text.specs.declared.command.LineFault.{LineFault}
 use Rattle.script_text.specs.declared.command.LineFault.TheVariants.{NoSuchShape, NoSuchLocation}
 use Rattle.script_text.specs.declared.phrase.Mention.{Mention}
 use Rattle.script_text.specs.declared.phrase.Phrase.{Phrase}
-use Rattle.script_text.specs.declared.phrase.Phrase.TheVariants.{Replace, Remove, Merge, Sew, Apply, Undo}
+use Rattle.script_text.specs.declared.phrase.Phrase.TheVariants.{Replace, Remove, Merge, Sew, Apply, Undo, Until, Prune}
+use Rattle.script_text.specs.declared.phrase.Phrase.TheVariants.{OutputFirst}
 use Rattle.script_text.proofs.AnswerLaws.{answers}
 use Rattle.script_text.proofs.ReadingParts.{none_some}
 use Rattle.script_text.proofs.WrittenWords.{joined_size, line_size_fits, size_of}
@@ -136,6 +137,9 @@ module _ (shapes locations : ℕ) where
   )
   meant_there Apply is e = tt
   meant_there Undo is e = tt
+  meant_there (Until kind) is e = tt
+  meant_there Prune is e = tt
+  meant_there OutputFirst is e = tt
 
   module _ (lines : LinesSpellOneCommand) where
     command_there : (line : List ℕ) (c : Command) → IsLineOf shapes locations line c
@@ -211,6 +215,9 @@ phrase_shorter (Merge ms) is = (let all = bare_shorter ms is.1 in omega (arith, 
 phrase_shorter (Sew ms) is = (let all = sewn_shorter ms in omega (arith, all))
 phrase_shorter Apply is = omega arith
 phrase_shorter Undo is = omega arith
+phrase_shorter (Until kind) is = omega arith
+phrase_shorter Prune is = omega arith
+phrase_shorter OutputFirst is = omega arith
 
 spelled_some : (p : Phrase) → 0 < length (spelling p)
 spelled_some (Replace s place t l) = omega arith
@@ -219,6 +226,9 @@ spelled_some (Merge ms) = omega arith
 spelled_some (Sew ms) = omega arith
 spelled_some Apply = omega arith
 spelled_some Undo = omega arith
+spelled_some (Until kind) = omega arith
+spelled_some Prune = omega arith
+spelled_some OutputFirst = omega arith
 
 line_shorter : (line : List ℕ) (p : Phrase) → Spells (words_of line) p
     → length (line_of_command (meaning_of p)) ≤ length line

@@ -24,7 +24,8 @@ use Rattle.script_text.specs.declared.command.LineFault.{LineFault}
 use Rattle.script_text.specs.declared.command.SignedName.{SignedName}
 use Rattle.script_text.specs.declared.phrase.Mention.{Mention}
 use Rattle.script_text.specs.declared.phrase.Phrase.{Phrase}
-use Rattle.script_text.specs.declared.phrase.Phrase.TheVariants.{Replace, Remove, Merge, Sew, Apply, Undo}
+use Rattle.script_text.specs.declared.phrase.Phrase.TheVariants.{Replace, Remove, Merge, Sew, Apply, Undo, Until, Prune}
+use Rattle.script_text.specs.declared.phrase.Phrase.TheVariants.{OutputFirst}
 use Rattle.script_text.proofs.AnswerLaws.{spelling_says}
 use Rattle.script_text.proofs.WrittenWords.{spelling_back}
 
@@ -79,6 +80,9 @@ meaning_back (commands.Merge names) = ap commands.Merge (names_back names)
 meaning_back (commands.Sew names) = ap commands.Sew (sewn_back names)
 meaning_back commands.Apply = refl
 meaning_back commands.Undo = refl
+meaning_back (commands.Until kind) = refl
+meaning_back commands.Prune = refl
+meaning_back commands.OutputFirst = refl
 
 -- ---- what is written is legal, with all numbers in range
 
@@ -120,6 +124,9 @@ module _ (shapes locations : ℕ) where
   fault_free (commands.Sew names) has = sewn_free names has.0.are_shapes
   fault_free commands.Apply has = refl
   fault_free commands.Undo has = refl
+  fault_free (commands.Until kind) has = refl
+  fault_free commands.Prune has = refl
+  fault_free commands.OutputFirst has = refl
 
   module _ (few_shapes : IsShort shapes) (few_locations : IsShort locations) where
     shape_short : (n : ℕ) → IsShape shapes n → IsShort n
@@ -201,6 +208,9 @@ module _ (shapes locations : ℕ) where
     )
     legal commands.Apply has = tt
     legal commands.Undo has = tt
+    legal (commands.Until kind) has = tt
+    legal commands.Prune has = tt
+    legal commands.OutputFirst has = tt
 
     module _ (lines : LinesSpellOneCommand) (plain : WrittenIsRead) where
       read_back : (p : Phrase) → IsLegal p → fault_of shapes locations p ≡ None

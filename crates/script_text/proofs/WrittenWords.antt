@@ -8,7 +8,10 @@ use Rattle.std.proofs.lemmas.Bool.Decides.{nat_tests}
 use Rattle.std.proofs.lemmas.List.{append-nil, length-append}
 use Rattle.brep_tokens.specs.Bytes.{is_dark, is_sign}
 use Rattle.brep_tokens.specs.Written.{IsDarkWord, is_dark_word, IsPlain, WrittenIsRead}
+use Rattle.orientation.specs.Kinds.{name_of}
 use Rattle.orientation.specs.Turns.{sign_of}
+use Rattle.orientation.specs.declared.kind.Kind.{Kind}
+use Rattle.orientation.specs.declared.kind.Kind.TheVariants.{Ve, Ed, Wi, Fa, Sh, So, CS, Co}
 use Rattle.orientation.specs.declared.turn.Turn.{Turn}
 use Rattle.orientation.specs.declared.turn.Turn.TheVariants.{Forward, Reversed, Internal, External}
 use Rattle.script_text.specs.Spelling.{spell_mention, spell_number, spelling}
@@ -16,7 +19,8 @@ use Rattle.script_text.specs.Words.{is_blank, onto_word, starts_blank, words_of}
 use Rattle.script_text.specs.Writing.{after_spaces}
 use Rattle.script_text.specs.declared.phrase.Mention.{Mention}
 use Rattle.script_text.specs.declared.phrase.Phrase.{Phrase}
-use Rattle.script_text.specs.declared.phrase.Phrase.TheVariants.{Replace, Remove, Merge, Sew, Apply, Undo}
+use Rattle.script_text.specs.declared.phrase.Phrase.TheVariants.{Replace, Remove, Merge, Sew, Apply, Undo, Until, Prune}
+use Rattle.script_text.specs.declared.phrase.Phrase.TheVariants.{OutputFirst}
 
 both_true : (a b : Bool) → (a && b) ≡ true → (a ≡ true) × (b ≡ true)
 both_true true b h = (refl, h)
@@ -89,6 +93,16 @@ sign_is Reversed = refl
 sign_is Internal = refl
 sign_is External = refl
 
+name_dark : (k : Kind) → IsDarkWord (name_of k)
+name_dark Ve = refl
+name_dark Ed = refl
+name_dark Wi = refl
+name_dark Fa = refl
+name_dark Sh = refl
+name_dark So = refl
+name_dark CS = refl
+name_dark Co = refl
+
 module _ (written : WrittenIsRead) where
   number_dark : (n : ℕ) → IsDarkWord (decimal n)
   number_dark n = plain_dark (decimal n) (written.numbers n)
@@ -127,6 +141,9 @@ module _ (written : WrittenIsRead) where
   spelling_dark (Sew ms) = (refl, mentions_dark ms)
   spelling_dark Apply = (refl, tt)
   spelling_dark Undo = (refl, tt)
+  spelling_dark (Until kind) = (refl, (name_dark kind, tt))
+  spelling_dark Prune = (refl, tt)
+  spelling_dark OutputFirst = (refl, (refl, (refl, tt)))
 
   pub spelling_back : (p : Phrase) → words_of (join_with_byte 32 (spelling p)) ≡ spelling p
   spelling_back p = words_back (spelling p) (spelling_dark p)

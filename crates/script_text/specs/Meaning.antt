@@ -14,7 +14,8 @@ use Rattle.script_text.specs.declared.command.SignedName.{SignedName}
 use Rattle.script_text.specs.declared.command.Tgt.{Tgt}
 use Rattle.script_text.specs.declared.phrase.Mention.{Mention}
 use Rattle.script_text.specs.declared.phrase.Phrase.{Phrase}
-use Rattle.script_text.specs.declared.phrase.Phrase.TheVariants.{Replace, Remove, Merge, Sew, Apply, Undo}
+use Rattle.script_text.specs.declared.phrase.Phrase.TheVariants.{Replace, Remove, Merge, Sew, Apply, Undo, Until, Prune}
+use Rattle.script_text.specs.declared.phrase.Phrase.TheVariants.{OutputFirst}
 
 -- ---- what is meant
 
@@ -48,6 +49,9 @@ meaning_of (Merge ms) = commands.Merge (map number_of_mention ms)
 meaning_of (Sew ms) = commands.Sew (map signed_name ms)
 meaning_of Apply = commands.Apply
 meaning_of Undo = commands.Undo
+meaning_of (Until kind) = commands.Until kind
+meaning_of Prune = commands.Prune
+meaning_of OutputFirst = commands.OutputFirst
 
 -- ---- numbers out of range, the leftmost first
 
@@ -79,6 +83,9 @@ fault_of shapes locations (Merge ms) = mentions_fault shapes ms
 fault_of shapes locations (Sew ms) = mentions_fault shapes ms
 fault_of shapes locations Apply = None
 fault_of shapes locations Undo = None
+fault_of shapes locations (Until kind) = None
+fault_of shapes locations Prune = None
+fault_of shapes locations OutputFirst = None
 
 -- ---- what a line gives
 

@@ -5,13 +5,16 @@ use Rattle.std.specs.Prelude.{List, [], ◌∷◌, ◌++◌, length, codes, Opti
 use Rattle.std.specs.List.{list_all, list_any}
 use Rattle.std.specs.Option.{option_and_then}
 use Rattle.brep_tokens.specs.Forms.{number_of}
+use Rattle.orientation.specs.Kinds.{kind_of_name}
 use Rattle.orientation.specs.Turns.{turn_of}
+use Rattle.orientation.specs.declared.kind.Kind.{Kind}
 use Rattle.orientation.specs.declared.turn.Turn.{Turn}
 use Rattle.orientation.specs.declared.turn.Turn.TheVariants as turns
 use Rattle.script_text.specs.Words.{is_word, words_of}
 use Rattle.script_text.specs.declared.phrase.Mention.{Mention}
 use Rattle.script_text.specs.declared.phrase.Phrase.{Phrase}
-use Rattle.script_text.specs.declared.phrase.Phrase.TheVariants.{Replace, Remove, Merge, Sew, Apply, Undo}
+use Rattle.script_text.specs.declared.phrase.Phrase.TheVariants.{Replace, Remove, Merge, Sew, Apply, Undo, Until, Prune}
+use Rattle.script_text.specs.declared.phrase.Phrase.TheVariants.{OutputFirst}
 use Rattle.script_text.specs.declared.reading.Verb.{Verb}
 use Rattle.script_text.specs.declared.reading.Verb.TheVariants as verbs
 
@@ -38,7 +41,10 @@ verb_of word =
     else (if is_word word (codes "sew") then Some verbs.Sew
     else (if is_word word (codes "apply") then Some verbs.Apply
     else (if is_word word (codes "undo") then Some verbs.Undo
-    else None)))))
+    else (if is_word word (codes "until") then Some verbs.Until
+    else (if is_word word (codes "prune") then Some verbs.Prune
+    else (if is_word word (codes "output") then Some verbs.Output
+    else None))))))))
 
 -- ---- the first words, and those that follow
 
@@ -57,6 +63,10 @@ LeavesWords due result = MatchOption result (due ≡ None) (λ r. due ≡ Some (
 abbrev pub mention_in : List (List ℕ) → Option (Mention × List (List ℕ))
 mention_in [] = None
 mention_in (w ∷ ws) = before ws (mention_of w)
+
+abbrev pub kind_in : List (List ℕ) → Option (Kind × List (List ℕ))
+kind_in [] = None
+kind_in (w ∷ ws) = before ws (kind_of_name w)
 
 abbrev pub given : Option ℕ → Option (Option ℕ)
 given None = None
@@ -98,6 +108,16 @@ replacement_in ws =
     option_and_then (λ s. option_and_then (λ p. option_and_then (target_in s.0 p.0) (after_word (codes "by") p.1))
     (number_after (codes "at") s.1)) (mention_in ws)
 
+-- after `until`
+abbrev pub stop_in : List (List ℕ) → Option Phrase
+stop_in ws = option_and_then (λ k. alone (Until k.0) k.1) (kind_in ws)
+
+-- after `output`
+abbrev pub output_in : List (List ℕ) → Option Phrase
+output_in ws =
+    option_and_then (λ number. option_and_then (alone OutputFirst) (after_word (codes "1") number))
+    (after_word (codes "version") ws)
+
 -- all words as mentions, after these
 abbrev pub mentions_from : List Mention → List (List ℕ) → Option (List Mention)
 mentions_from ms [] = Some ms
@@ -138,6 +158,9 @@ phrase_after (Some verbs.Merge) ws = option_and_then merge_of (mentions_from [] 
 phrase_after (Some verbs.Sew) ws = option_and_then sewing_of (mentions_from [] ws)
 phrase_after (Some verbs.Apply) ws = alone Apply ws
 phrase_after (Some verbs.Undo) ws = alone Undo ws
+phrase_after (Some verbs.Until) ws = stop_in ws
+phrase_after (Some verbs.Prune) ws = alone Prune ws
+phrase_after (Some verbs.Output) ws = output_in ws
 
 -- the phrase that the words of a line spell, if they spell one
 unfoldable pub phrase_of : List (List ℕ) → Option Phrase

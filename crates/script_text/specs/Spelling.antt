@@ -3,12 +3,14 @@ use Rattle.std.specs.Prelude.{◌≡◌, ◌≢◌, ◌⊎◌, ℕ, ◌^◌, ◌
 use Rattle.std.specs.Prelude.{None, AllPairs}
 use Rattle.std.specs.List.{AllByRecursion}
 use Rattle.std.specs.Fmt.{decimal}
+use Rattle.orientation.specs.Kinds.{name_of}
 use Rattle.orientation.specs.Turns.{sign_of}
 use Rattle.orientation.specs.declared.turn.Turn.{Turn}
 use Rattle.orientation.specs.declared.turn.Turn.TheVariants as turns
 use Rattle.script_text.specs.declared.phrase.Mention.{Mention}
 use Rattle.script_text.specs.declared.phrase.Phrase.{Phrase}
-use Rattle.script_text.specs.declared.phrase.Phrase.TheVariants.{Replace, Remove, Merge, Sew, Apply, Undo}
+use Rattle.script_text.specs.declared.phrase.Phrase.TheVariants.{Replace, Remove, Merge, Sew, Apply, Undo, Until, Prune}
+use Rattle.script_text.specs.declared.phrase.Phrase.TheVariants.{OutputFirst}
 
 abbrev pub spell_sign : Option Turn → List ℕ
 spell_sign None = []
@@ -24,7 +26,7 @@ spell_number word None = []
 spell_number word (Some n) = word ∷ decimal n ∷ []
 
 -- `replace S by T`, `replace S at L by T`, both perhaps with `loc N`; `remove S`, `remove S at L`; `merge K K ..`; `sew
--- K M ..`; `apply`; `undo`
+-- K M ..`; `apply`; `undo`; `until KIND`; `prune`; `output version 1`
 abbrev pub spelling : Phrase → List (List ℕ)
 spelling (Replace source place target location) =
     codes "replace" ∷ spell_mention source
@@ -34,6 +36,9 @@ spelling (Merge mentions) = codes "merge" ∷ map spell_mention mentions
 spelling (Sew mentions) = codes "sew" ∷ map spell_mention mentions
 spelling Apply = codes "apply" ∷ []
 spelling Undo = codes "undo" ∷ []
+spelling (Until kind) = codes "until" ∷ name_of kind ∷ []
+spelling Prune = codes "prune" ∷ []
+spelling OutputFirst = codes "output" ∷ codes "version" ∷ codes "1" ∷ []
 
 -- a number of at most 18 digits
 abbrev pub IsShort : ℕ → Type 0
@@ -75,6 +80,9 @@ IsLegal (Merge ms) = AreNamed ms × AllByRecursion IsBare ms
 IsLegal (Sew ms) = AreNamed ms × AreSewn ms
 IsLegal Apply = Unit {0}
 IsLegal Undo = Unit {0}
+IsLegal (Until kind) = Unit {0}
+IsLegal Prune = Unit {0}
+IsLegal OutputFirst = Unit {0}
 
 -- The words of a line spell a command.
 pub record Spells (words : List (List ℕ)) (p : Phrase) : Type 0 where

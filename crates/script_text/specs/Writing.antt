@@ -12,7 +12,8 @@ use Rattle.script_text.specs.declared.command.SignedName.{SignedName}
 use Rattle.script_text.specs.declared.command.Tgt.{Tgt}
 use Rattle.script_text.specs.declared.phrase.Mention.{Mention}
 use Rattle.script_text.specs.declared.phrase.Phrase.{Phrase}
-use Rattle.script_text.specs.declared.phrase.Phrase.TheVariants.{Replace, Remove, Merge, Sew, Apply, Undo}
+use Rattle.script_text.specs.declared.phrase.Phrase.TheVariants.{Replace, Remove, Merge, Sew, Apply, Undo, Until, Prune}
+use Rattle.script_text.specs.declared.phrase.Phrase.TheVariants.{OutputFirst}
 
 -- ---- the line of a command
 
@@ -63,6 +64,9 @@ phrase_for (commands.Merge names) = Merge (map bare_mention names)
 phrase_for (commands.Sew names) = Sew (map sewn_mention names)
 phrase_for commands.Apply = Apply
 phrase_for commands.Undo = Undo
+phrase_for (commands.Until kind) = Until kind
+phrase_for commands.Prune = Prune
+phrase_for commands.OutputFirst = OutputFirst
 
 -- The line of a command: its words with one space between neighbours.
 abbrev pub line_of_command : Command → List ℕ
@@ -115,3 +119,6 @@ HasLine shapes locations (commands.Merge names) = AreShapes shapes names
 HasLine shapes locations (commands.Sew names) = AreShapes shapes (map name_of names) × AreSides names
 HasLine shapes locations commands.Apply = Unit {0}
 HasLine shapes locations commands.Undo = Unit {0}
+HasLine shapes locations (commands.Until kind) = Unit {0}
+HasLine shapes locations commands.Prune = Unit {0}
+HasLine shapes locations commands.OutputFirst = Unit {0}

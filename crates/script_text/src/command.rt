@@ -1,6 +1,6 @@
 //! The commands of a script.
 use crate::name_lists::{Names, SignedNames};
-use orientation::Turn;
+use orientation::{Kind, Turn};
 
 /// A record that is named, perhaps with the turn that is asked for, and the number of the place where alone it is
 /// meant.
@@ -40,6 +40,12 @@ pub enum Command {
     Apply,
     /// Takes back the unfinished step, or else the last one.
     Undo,
+    /// Sets the stop kind of the unfinished step; the last such line of a step counts.
+    Until(Kind),
+    /// Sets the prune mark of the unfinished step.
+    Prune,
+    /// The output is written in version 1. It concerns the whole run and isn't taken back.
+    OutputFirst,
 }
 
 /// Why a line gives no command.

@@ -138,6 +138,9 @@ fn command(
         )?)),
         Phrase::Apply => Ok(Command::Apply),
         Phrase::Undo => Ok(Command::Undo),
+        Phrase::Until(kind) => Ok(Command::Until(*kind)),
+        Phrase::Prune => Ok(Command::Prune),
+        Phrase::OutputFirst => Ok(Command::OutputFirst),
     }
 }
 

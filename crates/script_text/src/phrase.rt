@@ -1,6 +1,6 @@
 //! A command as a line spells it, before its numbers are held to the ranges of a file.
 use lists::ListOf;
-use orientation::Turn;
+use orientation::{Kind, Turn};
 
 /// A number of a record, perhaps with a sign joined before it.
 #[derive(Clone, Copy)]
@@ -29,4 +29,7 @@ pub(crate) enum Phrase {
     Sew(Mentions),
     Apply,
     Undo,
+    Until(Kind),
+    Prune,
+    OutputFirst,
 }

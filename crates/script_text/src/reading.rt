@@ -4,7 +4,8 @@ ghost use Rattle.std.specs.List.{list_all};
 ghost use Rattle.std.specs.HashSet.{IsFromIterResult};
 ghost use Rattle.std.specs.Option.{option_and_then};
 ghost use Rattle.script_text.specs.Reading.{LeavesWords, ReadsFront, after_word, alone, are_distinct, are_named};
-ghost use Rattle.script_text.specs.Reading.{are_sewn, is_bare, may_be_side, mention_in, mention_of, mentions_from};
+ghost use Rattle.script_text.specs.Reading.{are_sewn, is_bare, kind_in, may_be_side, mention_in, mention_of};
+ghost use Rattle.script_text.specs.Reading.{mentions_from, output_in, stop_in};
 ghost use Rattle.script_text.specs.Reading.{merge_of, number_after, number_in, phrase_of, removal_in, replacement_in};
 ghost use Rattle.script_text.specs.Reading.{sewing_of, target_in, verb_of};
 ghost use Rattle.script_text.specs.Words.{is_word, words_of};
@@ -12,7 +13,7 @@ ghost use Rattle.script_text.specs.Words.{is_word, words_of};
 use crate::line_words::first_word;
 use crate::phrase::{Mention, Mentions, Phrase};
 use brep_tokens::number;
-use orientation::{Turn, of_sign};
+use orientation::{Kind, Turn, kind_of_name, of_sign};
 use std::alloc::{AllocError, Global};
 use std::collections::HashSet;
 
@@ -25,6 +26,9 @@ pub(crate) enum Verb {
     Sew,
     Apply,
     Undo,
+    Until,
+    Prune,
+    Output,
 }
 
 fn is(word: &[u8], text: &[u8]) -> bool
@@ -48,6 +52,12 @@ fn verb_named(word: &[u8]) -> Option<Verb>
         Some(Verb::Apply)
     } else if is(word, b"undo") {
         Some(Verb::Undo)
+    } else if is(word, b"until") {
+        Some(Verb::Until)
+    } else if is(word, b"prune") {
+        Some(Verb::Prune)
+    } else if is(word, b"output") {
+        Some(Verb::Output)
     } else {
         None
     }
@@ -138,6 +148,32 @@ fn removal(line: &[u8]) -> Option<Phrase>
     let (source, rest) = first_mention(line)?;
     let (place, rest) = number_behind(b"at", rest)?;
     ended(Phrase::Remove { source, place }, rest)
+}
+
+fn first_kind(line: &[u8]) -> Option<(Kind, &[u8])>
+    ensures { ReadsFront (kind_in (words_of line.now)) result }
+{
+    match first_word(line) {
+        None => None,
+        Some((word, rest)) => match kind_of_name(word) {
+            None => None,
+            Some(kind) => Some((kind, rest)),
+        },
+    }
+}
+
+fn stop(line: &[u8]) -> Option<Phrase>
+    ensures { result ≡ stop_in (words_of line.now) }
+{
+    let (kind, rest) = first_kind(line)?;
+    ended(Phrase::Until(kind), rest)
+}
+
+fn output(line: &[u8]) -> Option<Phrase>
+    ensures { result ≡ output_in (words_of line.now) }
+{
+    let number = behind(b"version", line)?;
+    ended(Phrase::OutputFirst, behind(b"1", number)?)
 }
 
 fn target(source: Mention, place: Option<u64>, line: &[u8]) -> Option<Phrase>
@@ -299,6 +335,9 @@ pub(crate) fn phrase(alloc: Global, line: &[u8]) -> Result<Option<Phrase>, Alloc
             Some(Verb::Sew) => sewing_line(alloc, rest),
             Some(Verb::Apply) => Ok(ended(Phrase::Apply, rest)),
             Some(Verb::Undo) => Ok(ended(Phrase::Undo, rest)),
+            Some(Verb::Until) => Ok(stop(rest)),
+            Some(Verb::Prune) => Ok(ended(Phrase::Prune, rest)),
+            Some(Verb::Output) => Ok(output(rest)),
         },
     }
 }

@@ -9,7 +9,7 @@ ghost use Rattle.script_text.specs.declared.command.Command.TheVariants as comma
 use crate::command::{Command, Sel, SignedName, Tgt};
 use crate::name_lists::{Names, SignedNames};
 use itoa::Buffer;
-use orientation::{Turn, sign};
+use orientation::{Kind, Turn, kind_name, sign};
 use std::alloc::{AllocError, Global};
 
 /// The sign that is written for a turn: none for the forward one.
@@ -139,6 +139,13 @@ fn push_sewing(line: &mut Vec<u8>, names: &SignedNames) -> Result<(), AllocError
     Ok(())
 }
 
+fn push_stop(line: &mut Vec<u8>, kind: Kind) -> Result<(), AllocError>
+    ensures { OnOk result (line.new.items ≡ line.old.items ++ line_of_command (commands.Until kind)) }
+{
+    line.extend_from_slice(b"until ")?;
+    line.extend_from_slice(kind_name(kind))
+}
+
 fn push_command(line: &mut Vec<u8>, command: &Command) -> Result<(), AllocError>
     ensures { OnOk result (line.new.items ≡ line.old.items ++ line_of_command command.now) }
 {
@@ -149,6 +156,9 @@ fn push_command(line: &mut Vec<u8>, command: &Command) -> Result<(), AllocError>
         Command::Sew(names) => push_sewing(line, names),
         Command::Apply => line.extend_from_slice(b"apply"),
         Command::Undo => line.extend_from_slice(b"undo"),
+        Command::Until(kind) => push_stop(line, *kind),
+        Command::Prune => line.extend_from_slice(b"prune"),
+        Command::OutputFirst => line.extend_from_slice(b"output version 1"),
     }
 }
 
