@@ -2,6 +2,7 @@
 use Rattle.std.proofs.Common.{◌≡◌, ◌<◌, ◌≤◌, ◌+◌, ◌-◌, ◌∙◌, zero, suc, refl, sym, subst, ap, arith, max, inl, inr}
 use Rattle.std.specs.Prelude.{ℕ, List, [], ◌∷◌, ◌++◌, All, Some, length, map, slice_get}
 use Rattle.std.specs.Prelude.{unwrap_or}
+use Rattle.std.specs.Option.{option_map_or}
 use Rattle.std.proofs.lemmas.Bool.{cases_lt}
 use Rattle.std.proofs.lemmas.List.{length-map, length_push}
 use Rattle.std.proofs.lemmas.List.Elements.{All-contains}
@@ -13,6 +14,7 @@ use Rattle.location_words.specs.Tables.{IsTable}
 use Rattle.location_table.specs.Words.{word_of_place}
 use Rattle.orientation.specs.Kinds.{IsBelow}
 use Rattle.orientation.specs.declared.kind.Kind.{Kind}
+use Rattle.orientation.specs.declared.kind.Kind.TheVariants.{Co}
 use Rattle.expansion_laws.specs.Expansion.{IsNumberOf, expanded, trees_of_file}
 use Rattle.expansion_laws.specs.Measures.{depth, uses_depth}
 use Rattle.expansion_laws.specs.Trees.{Tree, Use, Uses, a_single, a_use, list_of, no_use, node, origin, tree_of, uses}
@@ -23,6 +25,7 @@ use Rattle.shape_pool.specs.declared.fault.PoolFault.{PoolFault}
 use Rattle.shape_pool.specs.declared.fault.PoolFault.TheVariants.{TooDeep, TooMany}
 use Rattle.shape_pool.specs.Calls.{IsLoaded, IsNode, IsRefused, IsTreeOver, Keeps, KeepsPlaces}
 use Rattle.shape_pool.specs.Laws.{IsSound as IsSoundPool, word_in}
+use Rattle.shape_pool.specs.Rows.{HaveKinds}
 use Rattle.shape_pool.specs.Rows.{Row, AllBelow, AllHeld, AllPlaced, depth_at, depth_over, greatest, kind_at}
 use Rattle.shape_pool.specs.Rows.{most_depth, most_nodes, origin_at, tree_at, use_by}
 use Rattle.brep_file.specs.PlainRecords.{plain_records, plain_use, record_of, tree_of_record}
@@ -30,6 +33,7 @@ use Rattle.brep_file.specs.Sound.{IsRecord, IsSound, IsUse}
 use Rattle.brep_file.specs.declared.file.File.{File}
 use Rattle.brep_file.specs.declared.records.Record.{Record}
 use Rattle.brep_file.specs.declared.uses.FileUse.{FileUse}
+use Rattle.file_loading.specs.Loading.{kind_of_record}
 use Rattle.file_loading.specs.Loading.{AreLoadedUses, HasOriginsOf, IsLoadedFrom, IsLoadedTo, IsLoadedUse, use_in}
 use Rattle.file_loading.specs.Places.{HoldWordsOf}
 use Rattle.file_loading.proofs.UseLaws.{some-lt}
@@ -265,6 +269,18 @@ origins-loaded f words rows root laws to held i reach =
     let lt : i < length f.records = omega (arith, within, held, size) in
     let own = to.origins i lt in
     inr (subst (λ k. IsNumberOf (length f.records) k) (sym own) (omega (arith, lt), omega arith))
+
+-- the kinds of records are those of nodes
+pub kinds-loaded : (f : File) (words : List (List Pair)) (rows : List Row) → IsLoadedTo f words rows (length f.records)
+    → HaveKinds rows (kind_of_record f)
+kinds-loaded f words rows to i short =
+    let size = to.size in let lt : i < length f.records = omega (arith, short, size) in
+    let r = at_place f.records i lt in
+    let there : length f.records - (length f.records - i) ≡ i = omega (arith, lt) in
+    ap (kind_of_record f) (to.origins i lt)
+    ∙ ap (λ k. option_map_or (λ (s : Record). s.head.kind) (slice_get f.records k) Co) there
+    ∙ ap (λ o. option_map_or (λ (s : Record). s.head.kind) o Co) r.1
+    ∙ sym (to.kinds i r.0 lt r.1)
 
 -- ---- by other names
 pub loaded-as : (n m : ℕ) (ids : List WordId) (us us' : List FileUse) (vs vs' : List UseOf) → n ≡ m → us ≡ us'

@@ -1,5 +1,8 @@
 -- A file in a pool: its records are loaded in file order, so the record with the number k of n is at the place n - k.
 use Rattle.std.specs.Prelude.{◌≡◌, ◌⊎◌, ◌-◌, ◌<◌, ℕ, List, Some, length, slice_get, slice_index_or}
+use Rattle.std.specs.Option.{option_map_or}
+use Rattle.orientation.specs.declared.kind.Kind.{Kind}
+use Rattle.orientation.specs.declared.kind.Kind.TheVariants.{Co}
 use Rattle.location_words.specs.declared.pair.Pair.{Pair}
 use Rattle.location_words.specs.declared.table.WordId.{WordId}
 use Rattle.location_words.specs.Tables.{IsTable}
@@ -34,6 +37,10 @@ pub record IsLoadedFrom (f : File) (words : List (List Pair)) (rows : List Row) 
 abbrev pub HasOriginsOf : File → List Row → ℕ → Type 0
 HasOriginsOf f rows root =
     (i : ℕ) → Reaches (ids_used rows) root i → (origin_at rows i ≡ 0) ⊎ IsNumberOf (length f.records) (origin_at rows i)
+
+-- the kind of a record, and a compound where there is none
+abbrev pub kind_of_record : File → ℕ → Kind
+kind_of_record f k = option_map_or (λ (r : Record). r.head.kind) (record_of f k) Co
 
 -- ---- While records are loaded
 

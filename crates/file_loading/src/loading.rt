@@ -1,8 +1,9 @@
 //! The records of a file as nodes of a pool.
 ghost use Rattle.brep_file.specs.Sound.{IsSound, IsWithinLimits};
 ghost use Rattle.brep_file.specs.PlainRecords.{expansion_of};
-ghost use Rattle.file_loading.specs.Loading.{use_in, AreLoadedUses, IsLoadedUse};
-ghost use Rattle.file_loading.specs.Loading.{HasOriginsOf, IsLoadedFrom, IsLoadedTo};
+ghost use Rattle.file_loading.specs.Loading.{use_in, kind_of_record, AreLoadedUses, HasOriginsOf, IsLoadedFrom};
+ghost use Rattle.file_loading.specs.Loading.{IsLoadedTo, IsLoadedUse};
+ghost use Rattle.shape_pool.specs.Rows.{HaveKinds};
 ghost use Rattle.file_loading.specs.Places.{HoldWordsOf, KeepsWords};
 ghost use Rattle.location_words.specs.Tables.{IsTable};
 ghost use Rattle.std.specs.Prelude.{◌≡◌, ◌<◌, ◌≤◌, ◌+◌, ◌∷◌, [], All, IfOk, OnOk, length};
@@ -87,6 +88,7 @@ pub fn load_file(
     requires pool { pool.old ≡ [] }
     ensures loaded { OnOk result (IsLoadedFrom file.now words.new pool.new) }
     ensures rows { OnOk result (length pool.new ≡ length file.now.records) }
+    ensures kinds { OnOk result (HaveKinds pool.new (kind_of_record file.now)) }
     ensures kept { OnOk result (KeepsWords words.old words.new) }
     ensures root { IfOk result (λ u. use_in words.new pool.new u ≡ expansion_of file.now) }
     ensures held { IfOk result (λ u. (u.id.0 < length pool.new) × (u.place.0 < length words.new)) }

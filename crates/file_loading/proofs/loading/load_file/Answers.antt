@@ -4,7 +4,7 @@ use Rattle.location_words.specs.declared.table.WordId.{WordId}
 use Rattle.shape_pool.specs.Rows.{Row}
 use Rattle.file_loading.specs.Loading.{IsLoadedTo}
 use Rattle.file_loading.specs.Places.{HoldWordsOf}
-use Rattle.file_loading.proofs.LoadLaws.{all-loaded, none-loaded, origins-loaded, place-held, use-as, use-same, whole}
+use Rattle.file_loading.proofs.LoadLaws.{all-loaded, kinds-loaded, none-loaded, origins-loaded, place-held, use-as, use-same, whole}
 use Rattle.file_loading.proofs.loading.load_file.Goals as goal
 
 pub records-init : goal.records-init
@@ -40,6 +40,12 @@ pub returns-clause-rows : goal.returns-clause-rows
 returns-clause-rows c =
     (whole c.args.file.now c.place_words.new.words c.records.pool c.records.at c.len-records.result
     c.len-records.ensures c.records-test.false c.records.auto.at-end c.records.invariant).size
+
+pub returns-clause-kinds : goal.returns-clause-kinds
+returns-clause-kinds c =
+    kinds-loaded c.args.file.now c.place_words.new.words c.records.pool
+    (whole c.args.file.now c.place_words.new.words c.records.pool c.records.at c.len-records.result
+    c.len-records.ensures c.records-test.false c.records.auto.at-end c.records.invariant)
 
 pub returns-clause-root : goal.returns-clause-root
 returns-clause-root c =
