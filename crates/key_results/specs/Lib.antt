@@ -1,0 +1,10 @@
+pub mod Words
+pub mod Memos
+pub mod Faults
+pub mod Derivations
+pub mod Weights
+pub mod Derived
+pub mod Parts
+pub mod Grown
+pub mod Pairs
+pub mod Results
