@@ -2,7 +2,9 @@
 ghost use Rattle.brep_file.specs.Sound.{IsSound, IsWithinLimits};
 ghost use Rattle.std.specs.Prelude.{IfOk};
 
+use crate::asking::asked_by;
 use crate::saying::{add_node, add_number, add_use};
+use crate::steps::add_step;
 use brep_file::laws::reading_is_exact;
 use brep_file::{File, read_file};
 use brep_tokens::ReadStop;
@@ -20,8 +22,9 @@ fn file_of(alloc: Global, bytes: Vec<u8>) -> Result<File, ReadStop>
     read_file(alloc, bytes)
 }
 
-/// The root use of a file that is loaded into a pool, and each node: its number, its kind, its record and its uses.
-fn nodes_text(alloc: Global, file: &File) -> Result<String, AllocError>
+/// The root use of a file that is loaded into a pool, and each node: its number, its kind, its record and its uses. Then
+/// what comes of the step of a script, if there is one.
+fn nodes_text(alloc: Global, file: &File, script: Option<&str>) -> Result<String, AllocError>
     requires sound { IsSound file.now }
     requires within { IsWithinLimits file.now }
 {
@@ -35,13 +38,28 @@ fn nodes_text(alloc: Global, file: &File) -> Result<String, AllocError>
     for id in 0..pool.mark() {
         add_node(&mut text, alloc, &pool, &words, id)?;
     }
+    if let Some(lines) = script {
+        let asked = asked_by(alloc, file, &pool, &words, lines)?;
+        match asked.refused {
+            Some(number) => {
+                text.push_str("not taken: line")?;
+                add_number(&mut text, alloc, number)?;
+                text.push_str("\n")?;
+            }
+            None => add_step(&mut text, alloc, &mut pool, &mut words, &asked.table, root)?,
+        }
+    }
     Ok(text)
 }
 
-/// What is said of the file of a text.
-pub(crate) fn loaded_text(alloc: Global, bytes: &[u8]) -> Result<String, AllocError> {
-    match file_of(alloc, bytes.to_vec(alloc)?) {
-        Ok(file) => nodes_text(alloc, &file),
+/// What is said of a part: a file, and perhaps a script behind it.
+pub(crate) fn part_text(alloc: Global, part: &str) -> Result<String, AllocError> {
+    let (file, script) = match part.split_once("...\n") {
+        Some((file, lines)) => (file, Some(lines)),
+        None => (part, None),
+    };
+    match file_of(alloc, file.as_bytes().to_vec(alloc)?) {
+        Ok(file) => nodes_text(alloc, &file, script),
         Err(ReadStop::Fault(fault)) => {
             let mut text = String::new(alloc);
             text.push_str("fault at")?;

@@ -3,7 +3,7 @@ ghost use Rattle.std.specs.Prelude.{◌<◌, length};
 
 use location_words::{WordId, Words};
 use orientation::{kind_name, sign};
-use shape_pool::{NodeId, Pool, UseOf};
+use shape_pool::{IdPairs, NodeId, Pool, UseOf};
 use std::alloc::{AllocError, Global};
 
 /// Appends a space and a number.
@@ -58,4 +58,19 @@ pub(crate) fn add_node(
         add_use(text, alloc, words, UseOf { turn, place, id })?;
     }
     text.push_str("\n")
+}
+
+/// Appends pairs of nodes by their numbers, that of a node and itself by its number alone.
+pub(crate) fn add_pairs(
+    text: &mut String,
+    alloc: Global,
+    pairs: &IdPairs,
+) -> Result<(), AllocError> {
+    for pair in pairs.as_slice() {
+        add_number(text, alloc, u64::from(pair.0.0))?;
+        if pair.0 != pair.1 {
+            text.push_str(format!(in alloc; ">{}", pair.1.0)?.as_str())?;
+        }
+    }
+    Ok(())
 }

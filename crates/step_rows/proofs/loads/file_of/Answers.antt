@@ -1,6 +1,6 @@
 -- By what reading gives.
-use Rattle.load_rows.proofs.Given.{given-sound, given-small}
-use Rattle.load_rows.proofs.loads.file_of.Goals as goal
+use Rattle.step_rows.proofs.Given.{given-sound, given-small}
+use Rattle.step_rows.proofs.loads.file_of.Goals as goal
 
 pub returns-clause-sound : goal.returns-clause-sound
 returns-clause-sound c =
