@@ -1,0 +1,5 @@
+mod CauseLaws
+mod LineLaws
+mod MapLaws
+mod WalkLaws
+mod WalkSteps

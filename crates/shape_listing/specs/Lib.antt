@@ -1,0 +1,5 @@
+pub mod Lines
+pub mod Texts
+pub mod Causes
+pub mod Files
+pub mod ByNumber
