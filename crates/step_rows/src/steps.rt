@@ -1,10 +1,12 @@
 //! Steps that are carried out.
+ghost use Rattle.reshape.specs.Answers.{IsHeldAnswer};
 ghost use Rattle.reshape.specs.Readings.{IsCarriedOut};
 ghost use Rattle.requests.specs.Numbered.{Table};
 ghost use Rattle.shape_pool.specs.Rows.{HasPlaces};
-ghost use Rattle.std.specs.Prelude.{◌≡◌, ◌<◌, length};
+ghost use Rattle.std.specs.Prelude.{◌≡◌, ◌<◌, ◌≤◌, IfOk, length};
 ghost use Rattle.step_rows.specs.Ready.{AreReady};
 
+use crate::histories::add_history;
 use crate::saying::{add_node, add_number, add_pairs, add_use};
 use brep_desk::Steps;
 use location_words::Words;
@@ -30,6 +32,9 @@ fn carried_out<L: Ledger>(
     requires place { root.place.0 < length words.old }
     requires places { HasPlaces pool.old (length words.old) }
     requires plan { (t : Table) × IsCarriedOut pool.old (length words.old) root.id.0 plan.now t }
+    ensures held { IfOk result (IsHeldAnswer pool.new (length words.new)) }
+    ensures places { HasPlaces pool.new (length words.new) }
+    ensures kept { length pool.old ≤ length pool.new }
 {
     let mut steps = Steps::<L>::open(blank);
     apply(pool, words, plan, root, &mut steps)
@@ -124,7 +129,10 @@ pub(crate) fn add_step(
         Err(fault) => return add_fault(text, alloc, &fault),
     };
     match carried_out::<Brand>(pool, words, &plan, root, Blank::new(1)) {
-        Ok(made) => add_made(text, alloc, pool, words, mark, &made),
+        Ok(made) => {
+            add_made(text, alloc, pool, words, mark, &made)?;
+            add_history(text, alloc, pool, words, root, &made)
+        }
         Err(fault) => add_refusal(text, alloc, &fault),
     }
 }

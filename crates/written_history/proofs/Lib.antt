@@ -1,0 +1,4 @@
+pub mod SortLaws
+pub mod NumberLaws
+pub mod ToldLaws
+pub mod OnceLaws
