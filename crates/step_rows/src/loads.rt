@@ -1,6 +1,7 @@
 //! A file that is read and loaded.
 ghost use Rattle.brep_file.specs.Sound.{IsSound, IsWithinLimits};
-ghost use Rattle.std.specs.Prelude.{IfOk};
+ghost use Rattle.shape_pool.specs.Rows.{HasPlaces};
+ghost use Rattle.std.specs.Prelude.{◌<◌, IfOk, length};
 
 use crate::asking::asked_by;
 use crate::saying::{add_node, add_number, add_use};
@@ -10,7 +11,7 @@ use brep_file::{File, read_file};
 use brep_tokens::ReadStop;
 use file_loading::load_file;
 use location_words::Words;
-use shape_pool::Pool;
+use shape_pool::{Pool, UseOf};
 use std::alloc::{AllocError, Global};
 
 /// The file of a text.
@@ -22,8 +23,50 @@ fn file_of(alloc: Global, bytes: Vec<u8>) -> Result<File, ReadStop>
     read_file(alloc, bytes)
 }
 
-/// The root use of a file that is loaded into a pool, and each node: its number, its kind, its record and its uses. Then
-/// what comes of the step of a script, if there is one.
+/// Appends the root use, and each node: its number, its kind, its record and its uses.
+fn add_nodes(
+    text: &mut String,
+    alloc: Global,
+    pool: &Pool,
+    words: &Words,
+    root: UseOf,
+) -> Result<(), AllocError> {
+    text.push_str("root")?;
+    add_use(text, alloc, words, root)?;
+    text.push_str("\n")?;
+    for id in 0..pool.mark() {
+        add_node(text, alloc, pool, words, id)?;
+    }
+    Ok(())
+}
+
+/// Appends what comes of the step of a script.
+fn add_script(
+    text: &mut String,
+    alloc: Global,
+    file: &File,
+    pool: &mut Pool,
+    words: &mut Words,
+    root: UseOf,
+    lines: &str,
+) -> Result<(), AllocError>
+    requires root { root.id.0 < length pool.old }
+    requires place { root.place.0 < length words.old }
+    requires places { HasPlaces pool.old (length words.old) }
+{
+    let asked = asked_by(alloc, file, pool, words, lines)?;
+    match asked.refused {
+        Some(number) => {
+            text.push_str("not taken: line")?;
+            add_number(text, alloc, number)?;
+            text.push_str("\n")
+        }
+        None => add_step(text, alloc, pool, words, &asked.table, root),
+    }
+}
+
+/// The root use of a file that is loaded into a pool and its nodes. Then what comes of the step of a script, if there is
+/// one.
 fn nodes_text(alloc: Global, file: &File, script: Option<&str>) -> Result<String, AllocError>
     requires sound { IsSound file.now }
     requires within { IsWithinLimits file.now }
@@ -32,22 +75,9 @@ fn nodes_text(alloc: Global, file: &File, script: Option<&str>) -> Result<String
     let mut words = Words::new(alloc)?;
     let root = load_file(alloc, file, &mut pool, &mut words)?;
     let mut text = String::new(alloc);
-    text.push_str("root")?;
-    add_use(&mut text, alloc, &words, root)?;
-    text.push_str("\n")?;
-    for id in 0..pool.mark() {
-        add_node(&mut text, alloc, &pool, &words, id)?;
-    }
+    add_nodes(&mut text, alloc, &pool, &words, root)?;
     if let Some(lines) = script {
-        let asked = asked_by(alloc, file, &pool, &words, lines)?;
-        match asked.refused {
-            Some(number) => {
-                text.push_str("not taken: line")?;
-                add_number(&mut text, alloc, number)?;
-                text.push_str("\n")?;
-            }
-            None => add_step(&mut text, alloc, &mut pool, &mut words, &asked.table, root)?,
-        }
+        add_script(&mut text, alloc, file, &mut pool, &mut words, root, lines)?;
     }
     Ok(text)
 }
