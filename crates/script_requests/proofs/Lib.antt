@@ -1,0 +1,12 @@
+pub mod PairLaws
+pub mod MeetLaws
+pub mod NameLaws
+pub mod HeldLaws
+pub mod RequestLaws
+pub mod JoinLaws
+pub mod FailLaws
+pub mod RestLaws
+pub mod StandLaws
+pub mod AskLaws
+pub mod MemberTrees
+pub mod ListLaws
