@@ -55,6 +55,15 @@ same out.brep want.brep
 same history.txt want.txt
 rm -f out.brep history.txt
 
+expect 0 '' list in.brep Ve:Co out.txt
+printf '2\n  1\n' | cmp -s - out.txt || fail 'list wrote something else'
+expect 0 '' walk in.brep All 2 out.txt
+printf '+1\n+2\n' | cmp -s - out.txt || fail 'walk wrote something else'
+rm -f out.txt
+expect 2 'usage: ' list in.brep Fa:Ve out.txt
+expect 10 'not built' gen 7 0 out.txt
+absent out.txt
+
 expect 2 'usage: ' copy in.brep
 expect 2 'usage: ' copy in.brep in.brep
 printf 'CASCADE Topology V3, (c) Open Cascade\n' >third.brep

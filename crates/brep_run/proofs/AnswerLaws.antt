@@ -16,6 +16,9 @@ use Rattle.brep_file.specs.ReadingLaws.{ReadingIsExact}
 use Rattle.brep_file.specs.Sound.{file_limits}
 use Rattle.brep_run.specs.declared.outcome.LimitKind.{LimitKind}
 use Rattle.brep_run.specs.declared.outcome.LimitKind.TheVariants.{FileBytes, ScriptBytes, ScriptLines}
+use Rattle.brep_run.specs.declared.outcome.LimitKind.TheVariants.{Keys, WordPairs, WordPower, Pairs}
+use Rattle.shape_listing.specs.declared.listing.Listing.{Listing}
+use Rattle.brep_run.specs.Listings.{IsListingDue, listing_outcome, told_of}
 use Rattle.brep_run.specs.declared.outcome.Outcome.{Outcome}
 use Rattle.brep_run.specs.declared.outcome.Outcome.TheVariants.{Done, Usage, NotBuilt, Script, Limit}
 use Rattle.brep_run.specs.declared.outcome.Outcome.TheVariants.{ReadDesk, WriteDesk, NoMemory}
@@ -27,7 +30,7 @@ use Rattle.brep_run.specs.Copy.{Counts, Holds, HoldsFault, IsDue, most_bytes}
 use Rattle.brep_run.specs.Outcomes.{OnDone, OnUsage, OnNotBuilt, IfFile, IfLimit, IfScript, IfStopped, IfDeskFault}
 use Rattle.brep_run.specs.Rewrite.{AreDue, HoldsFile, HoldsScript, HasMoreLines, IsRefusedLine, IsRewriteLimit}
 use Rattle.brep_run.specs.Rewrite.{IsRewriteUnbuilt, given_for, location_count, most_script_bytes, most_script_lines}
-use Rattle.brep_run.specs.Runs.{Due, of_copy, of_rewrite}
+use Rattle.brep_run.specs.Runs.{Due, of_copy, of_listing, of_rewrite}
 use Rattle.brep_run.specs.Script.{ScriptGiven, IsRefusedAt, IsTold}
 
 -- ---- what is held
@@ -187,6 +190,43 @@ module _ (entry exit : ℕ) where
         writing-failed due-copy before after file taken (copied-is-done w.1.0 w.1.1) c
     copy-answers target NoMemory d u n i s l w c = no-memory due-copy
 
+    -- ---- a listing
+
+    module _ (listing : Listing) where
+      abbrev due-listing : Answer
+      due-listing = if_file (λ (f : File). outcome (listing_outcome listing f)) (old.held source)
+
+      listed-is-done : (text : List ℕ) → IsListingDue t old source listing text → due-listing ≡ outcome Done
+      listed-is-done text due =
+          let is = due held in
+          file-goes-on exact old source (λ (f : File). outcome (listing_outcome listing f)) is.0 is.1
+          ∙ ap (λ o. outcome (told_of o)) is.3
+
+      pub listing-answers : (target : List ℕ) (o : Outcome) →
+          OnDone o (of_listing t old new source listing target).finished → OnUsage o ⊥ → OnNotBuilt o ⊥ →
+          IfFile o (of_listing t old new source listing target).file → IfScript o (λ fault. ⊥) →
+          IfLimit o (of_listing t old new source listing target).limit →
+          IfStopped o (of_listing t old new source listing target).stopped → IfDeskFault o (Counts entry exit) →
+          Answers o due-listing entry exit
+      listing-answers target Done d u n i s l w c = is-due due-listing Done (listed-is-done d.0 d.1)
+      listing-answers target Usage d u n i s l w c = absurd u
+      listing-answers target NotBuilt d u n i s l w c = absurd n
+      listing-answers target (outcomes.File fault) d u n i s l w c =
+          is-due due-listing (outcomes.File fault)
+          (fault-is-told exact old source (λ (f : File). outcome (listing_outcome listing f)) fault (i held))
+      listing-answers target (Script fault) d u n i s l w c = absurd s
+      listing-answers target (Limit which count) d u n i s l w c = elim l [
+        | inl long ↦ is-due due-listing (Limit which count)
+            (file-is-long (λ (f : File). outcome (listing_outcome listing f)) which count long.0 long.1 long.2)
+        | inr passed ↦ (let is = passed held in is-due due-listing (Limit which count)
+            (file-goes-on exact old source (λ (f : File). outcome (listing_outcome listing f)) is.0 is.1
+            ∙ ap outcome is.2))
+      ]
+      listing-answers target (ReadDesk before after) d u n i s l w c = reading-failed due-listing before after c
+      listing-answers target (WriteDesk before after file taken) d u n i s l w c =
+          writing-failed due-listing before after file taken (listed-is-done w.1.0 w.1.1) c
+      listing-answers target NoMemory d u n i s l w c = no-memory due-listing
+
     -- ---- a rewriting
 
     module _ (script : List ℕ) where
@@ -231,6 +271,10 @@ module _ (entry exit : ℕ) where
           file-goes-on exact old source (if_script (old.held script)) is.0 is.1
           ∙ script-lines-are-counted old script is.0 is.2
           ∙ ap (λ n. outcome (Limit ScriptLines n)) (sym h.0)
+      limit-is-due Keys count h = absurd h
+      limit-is-due WordPairs count h = absurd h
+      limit-is-due WordPower count h = absurd h
+      limit-is-due Pairs count h = absurd h
 
       module _ (target history : List ℕ) where
         abbrev due-then : Due

@@ -1,6 +1,6 @@
 -- A copy that is done spells one file, which stands for the expansion of the file that was read and shares what is
 -- equal.
-use Rattle.std.proofs.Common.{◌≡◌, ℕ, length, List, Some, map, refl, sym, ap, subst, ◌∙◌}
+use Rattle.std.proofs.Common.{inl, ◌≡◌, ℕ, length, List, Some, map, refl, sym, ap, subst, ◌∙◌}
 use Rattle.std.proofs.lemmas.List.{length-map}
 use Rattle.brep_desk.specs.Shown.{Shown, Tells}
 use Rattle.expansion_laws.specs.Trees.{Tree, Use, origin}
@@ -15,7 +15,8 @@ use Rattle.brep_file.specs.Reads.{Spells}
 use Rattle.brep_run.specs.Copy.{IsDue, OutWritten}
 use Rattle.brep_run.specs.Rewrite.{HoldsFile}
 use Rattle.brep_run.specs.Runs.{IsCopiedRoot, WrittenExpands, WrittenShares}
-use Rattle.brep_run.specs.Copies.{IsTextFor, SharesEqualTrees, TextsStandForRoots}
+use Rattle.brep_writer.specs.Copies.{TextsStandForRoots}
+use Rattle.brep_run.specs.Copies.{IsTextFor, SharesEqualTrees}
 
 some-same : {A : Type 0} (x y : A) → Some x ≡ Some y → x ≡ y
 some-same x y e = cc
@@ -29,7 +30,8 @@ module _ (stand : TextsStandForRoots) (t : Tells) (old new : Shown) (source targ
       let same : done.0 ≡ text = some-same _ _ (sym ((done.2.written written).here) ∙ is) in
       let whole : IsTextFor f (expansion_of f) done.0 =
       subst (λ x. IsTextFor f (expansion_of f) x) (sym read.3.written)
-      (stand.texts f (expansion_of f) read.3.reads.spells.sound (stand.copies f read.3.reads.spells.sound)) in
+      (stand.texts f (expansion_of f) f.version read.3.reads.spells.sound (inl refl)
+      (stand.copies f read.3.reads.spells.sound)) in
       let file : HoldsFile old source f = record { bytes = read.0; holds = read.2; reads = read.3.reads } in
       (f, expansion_of f, (file, refl), subst (λ x. IsTextFor f (expansion_of f) x) same whole)
 

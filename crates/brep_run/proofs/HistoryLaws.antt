@@ -10,10 +10,11 @@ use Rattle.expansion_laws.specs.Trees.{Tree, Use, origin}
 use Rattle.expansion_laws.specs.Expansion.{IsNumberOf}
 use Rattle.expansion_laws.specs.Written.{flat, IsWritten}
 use Rattle.history_text.specs.declared.file.HistoryFile.{HistoryFile}
-use Rattle.history_text.specs.HistoryText.{Ascend, is_pair_below, IsShort, IsPairOf, ArePairs, IsHistory}
+use Rattle.history_text.specs.HistoryText.{Ascend, is_pair_below, IsShort, IsPairOf, IsHistory}
 use Rattle.brep_file.specs.declared.file.File.{File}
 use Rattle.brep_file.specs.Sound.{IsSound}
-use Rattle.brep_run.specs.Copies.{IsTextFor, TextsStandForRoots}
+use Rattle.brep_writer.specs.Copies.{TextsStandForRoots}
+use Rattle.brep_run.specs.Copies.{IsTextFor}
 use Rattle.brep_run.specs.Removal.{Ascends, RemovalDone}
 use Rattle.brep_run.specs.Rewrite.{AreTextsOf}
 use Rattle.history_text.specs.HistoryText as history_text
@@ -123,7 +124,7 @@ module _ (f : File) (sound : IsSound f) (numbers : List ℕ) (root : Use) (text 
   removal-texts stand = record {
     root_after = done.root_after;
     written = done.written;
-    stands = subst (IsTextFor f root) (sym done.written) (stand.texts f root sound done.writable);
+    stands = subst (IsTextFor f root) (sym done.written) (stand.texts f root f.version sound (inl refl) done.writable);
     history = (
       history,
       refl,

@@ -1,10 +1,4 @@
-pub mod NumberedRecords
-pub mod LayoutLemmas
-pub mod ShortTokens
-pub mod WrittenSound
-pub mod CopyLemmas
-pub mod Standing
-pub mod TextLemmas
+pub mod ListingLaws
 pub mod WritingOut
 pub mod Stopping
 pub mod CopyLaws
@@ -37,6 +31,4 @@ pub mod Reading
 pub mod ReadFiles
 pub mod AnswerLaws
 pub mod CallCounts
-pub mod WritingLaws
-pub mod RelabelledTrees
 pub mod InputLaws

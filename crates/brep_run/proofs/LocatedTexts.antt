@@ -15,10 +15,10 @@ use Rattle.tshape_data.specs.Locations.{data_locations}
 use Rattle.brep_file.specs.declared.uses.FileUse.{FileUse}
 use Rattle.brep_file.specs.declared.file.File.{File}
 use Rattle.brep_file.specs.PlainRecords.{tree_of_record, expansion_of}
-use Rattle.brep_run.specs.WrittenFile.{words_of_data, words_of_tree, words_under, location_under}
+use Rattle.brep_writer.specs.WrittenFile.{words_of_data, words_of_tree, words_under, location_under}
 use Rattle.brep_run.specs.Completion.{NumbersTell, ArePlaced, Completes, AreLocated, use_of_tree}
 use Rattle.brep_run.specs.Completion.{locations_in, locations_of_number, locations_used}
-use Rattle.brep_run.proofs.CopyLemmas.{record-at}
+use Rattle.brep_writer.proofs.CopyLemmas.{record-at}
 use Rattle.brep_run.proofs.Numbering.{head_is, uses_of_tree}
 
 module _ (f : File) (tell : NumbersTell f) where

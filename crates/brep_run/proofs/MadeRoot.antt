@@ -17,11 +17,12 @@ use Rattle.tshape_data.specs.declared.head.Head.{Head}
 use Rattle.brep_file.specs.declared.records.Record.{Record}
 use Rattle.brep_file.specs.PlainRecords.{record_of, tree_of_record}
 use Rattle.brep_file.specs.Sound.{IsSound}
-use Rattle.brep_run.specs.Dress.{head_for, made_head, rebuilt}
-use Rattle.brep_run.specs.Copies.{CanBeWritten}
-use Rattle.brep_run.specs.Layout.{shape_lines}
-use Rattle.brep_run.specs.WrittenFile.{words_of_data, words_under, location_under}
-use Rattle.brep_run.specs.WrittenFile.{locations_under, written_file, written_head}
+use Rattle.brep_writer.specs.Dress.{head_for, made_head, rebuilt}
+use Rattle.brep_writer.specs.Copies.{CanBeWritten}
+use Rattle.written_layout.specs.Layout.{shape_lines}
+use Rattle.brep_writer.specs.WrittenFile.{words_of_data, words_under, location_under}
+use Rattle.brep_writer.specs.WrittenFile.{locations_under, written_head}
+use Rattle.brep_writer.specs.OwnVersion.{written_file}
 use Rattle.brep_run.specs.Remaining.{made_root}
 
 no_record : (f : File) → record_of f 0 ≡ None

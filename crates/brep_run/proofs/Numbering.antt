@@ -16,7 +16,7 @@ use Rattle.brep_file.specs.declared.uses.FileUse.{FileUse}
 use Rattle.brep_file.specs.declared.records.Record.{Record}
 use Rattle.brep_file.specs.declared.file.File.{File}
 use Rattle.brep_file.specs.PlainRecords.{record_of, plain_use, plain_records, tree_of_record}
-use Rattle.brep_run.specs.Dress.{head_for, rebuilt, made_head}
+use Rattle.brep_writer.specs.Dress.{head_for, rebuilt, made_head}
 use Rattle.brep_run.specs.Completion.{NumbersTell, ArePlaced, Completes, CompletesUses, use_of_tree, new_number}
 use Rattle.brep_run.proofs.CompletedTrees.{completed-done, completed-new, completed_uses-push}
 use Rattle.brep_run.proofs.CompletedTrees.{any_at, any_none, number_at, number_none}

@@ -12,10 +12,11 @@ use Rattle.expansion_laws.specs.Trees.{Use}
 use Rattle.brep_file.specs.declared.file.File.{File}
 use Rattle.brep_run.specs.declared.outcome.LimitKind.{LimitKind}
 use Rattle.brep_run.specs.declared.outcome.LimitKind.TheVariants.{FileBytes, ScriptBytes, ScriptLines}
+use Rattle.brep_run.specs.declared.outcome.LimitKind.TheVariants.{Keys, WordPairs, WordPower, Pairs}
 use Rattle.brep_run.specs.Outcomes.{OnDone, OnNotBuilt, IfLimit, IfScript, IfStopped}
 use Rattle.brep_run.specs.Copy.{IsDue, OutWritten}
 use Rattle.brep_file.specs.PlainRecords.{expansion_of}
-use Rattle.brep_run.specs.WrittenFile.{text_of}
+use Rattle.brep_writer.specs.OwnVersion.{text_of}
 use Rattle.brep_run.specs.Inputs.{IsLinesStop, IsScriptLimit, IsScriptStop}
 use Rattle.brep_run.specs.Rewrite.{AreDue, AreTextsOf, BothWritten, HoldsFile, HoldsScript}
 use Rattle.brep_run.specs.Rewrite.{InputsAreHeld, IsRefusedLine, IsRewriteLimit, IsRewriteUnbuilt}
@@ -134,6 +135,10 @@ module _ (t : Tells) (a b : Shown) (quiet : NothingWritten t a b) (source script
       },
     )),
   )
+  limit-before Keys count h = h
+  limit-before WordPairs count h = h
+  limit-before WordPower count h = h
+  limit-before Pairs count h = h
 
   pub limited-before : (entry exit : ℕ) (o : Outcome) → IsScriptStop t b script entry exit o
       → IfLimit o (λ which count. IsRewriteLimit t a source script which count)

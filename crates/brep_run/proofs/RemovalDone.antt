@@ -23,16 +23,16 @@ use Rattle.brep_file.specs.declared.records.Record.{Record}
 use Rattle.brep_file.specs.declared.file.File.{File}
 use Rattle.brep_file.specs.PlainRecords.{plain_use, plain_records, tree_of_record, expansion_of, plain_root}
 use Rattle.brep_file.specs.Sound.{IsUse, IsSound}
-use Rattle.brep_run.specs.Dress.{head_of}
+use Rattle.brep_writer.specs.Dress.{head_of}
 use Rattle.brep_run.specs.Completion.{NumbersTell, ArePlaced, Completes}
-use Rattle.brep_run.specs.Copies.{CanBeWritten}
-use Rattle.brep_run.specs.WrittenFile.{text_of}
+use Rattle.brep_writer.specs.Copies.{CanBeWritten}
+use Rattle.brep_writer.specs.OwnVersion.{text_of}
 use Rattle.brep_run.specs.Removal.{removal_step, tree_written, IsRootAfter, history_after}
 use Rattle.brep_run.specs.Removal.{ArePairsOf, AreNumbersOf, RemovalDone, Ascends, origins_written}
 use Rattle.brep_run.specs.Remaining.{is_among, is_supported, has_place, is_gone, is_modified, passing}
 use Rattle.brep_run.specs.Remaining.{kept_records, tree_after, made_root, RootStays, RootGoes}
 use Rattle.brep_file.specs.Marks.{kept_uses}
-use Rattle.brep_run.proofs.CopyLemmas.{stands-below}
+use Rattle.brep_writer.proofs.CopyLemmas.{stands-below}
 use Rattle.brep_run.proofs.KeptLists.{filter-all, map-same}
 use Rattle.brep_run.proofs.MadeRoot.{made-only, made-writable}
 use Rattle.brep_run.proofs.Numbering.{plain_number}

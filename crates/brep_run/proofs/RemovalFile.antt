@@ -32,20 +32,22 @@ use Rattle.brep_file.specs.declared.file.File.{File}
 use Rattle.brep_file.specs.PlainRecords.{record_of, plain_use, plain_records, tree_of_record, expansion_of}
 use Rattle.brep_file.specs.Sound.{AreSoundTables, IsUse, IsRecord, IsSound, sizes_of}
 use Rattle.brep_file.specs.Spelling.{section, spell_file, spell_record, spell_tables, spell_use}
-use Rattle.brep_run.specs.Dress.{head_for, head_of, made_head}
+use Rattle.brep_writer.specs.Dress.{head_for, head_of, made_head}
 use Rattle.brep_run.specs.Completion.{NumbersTell, use_of_tree}
-use Rattle.brep_run.specs.Copies.{CanBeWritten}
-use Rattle.brep_run.specs.Layout.{layout}
-use Rattle.brep_run.specs.WrittenFile.{words_of_tree, words_under, locations_under}
-use Rattle.brep_run.specs.WrittenFile.{location_under, written_use, written_record, text_of}
+use Rattle.brep_writer.specs.Copies.{CanBeWritten}
+use Rattle.written_layout.specs.Layout.{layout}
+use Rattle.brep_writer.specs.WrittenFile.{words_of_tree, words_under, locations_under}
+use Rattle.brep_writer.specs.WrittenFile.{location_under, written_use, written_record}
+use Rattle.brep_writer.specs.OwnVersion.{text_of}
 use Rattle.brep_run.specs.Remaining.{kept_records, tree_after, record_after, IsFileAfter}
 use Rattle.brep_run.specs.Remaining.{is_supported, is_gone, is_modified, has_place, passing}
 use Rattle.brep_file.specs.Marks.{kept_uses, mark_of}
-use Rattle.brep_run.proofs.CopyLemmas.{record-at, kind-for, stands-below}
+use Rattle.brep_writer.proofs.CopyLemmas.{record-at, kind-for, stands-below}
 use Rattle.brep_run.proofs.KeptLists.{by_places, filter-yes, filter-no, map-same}
 use Rattle.brep_run.proofs.Passing.{passing-same}
-use Rattle.brep_run.proofs.WrittenSound.{head-sound}
-use Rattle.brep_run.proofs.ShortTokens.{Short, AreShort, each-left, file-short, payload-for}
+use Rattle.brep_writer.proofs.WrittenSound.{head-sound}
+use Rattle.brep_writer.proofs.ShortTokens.{Short, AreShort, file-short, payload-for}
+use Rattle.lists.proofs.Each.{each-left}
 use Rattle.brep_run.proofs.Numbering.{head_is}
 use Rattle.brep_run.proofs.RemovalTrees.{use_after, origin-after, after-is, before-is, names-above}
 

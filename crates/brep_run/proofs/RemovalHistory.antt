@@ -20,13 +20,13 @@ use Rattle.step_history.specs.History.{History, IsSupported, modified, step_hist
 use Rattle.expansion_laws.specs.Measures.{OccursIn}
 use Rattle.brep_file.specs.declared.file.File.{File}
 use Rattle.brep_file.specs.PlainRecords.{tree_of_record, expansion_of}
-use Rattle.brep_run.specs.Dress.{head_of}
+use Rattle.brep_writer.specs.Dress.{head_of}
 use Rattle.brep_run.specs.Completion.{NumbersTell, ArePlaced, Completes, new_number}
 use Rattle.brep_run.specs.Removal.{removal_step, tree_written, AreInRange, ArePairsOf, AreNumbersOf}
 use Rattle.brep_run.specs.Remaining.{is_supported, kept_records, tree_after, has_place, is_gone}
 use Rattle.brep_run.specs.Remaining.{is_modified, passing, pair_of, IsFileAfter, AreChanges}
 use Rattle.brep_file.specs.Marks.{mark_of}
-use Rattle.brep_run.proofs.CopyLemmas.{Stands, stands-below}
+use Rattle.brep_writer.proofs.CopyLemmas.{Stands, stands-below}
 use Rattle.brep_run.proofs.Numbering.{plain_number}
 use Rattle.brep_run.proofs.Passing.{Passes, passing-member, passing-has}
 use Rattle.brep_run.proofs.RemovalTrees.{not-true}

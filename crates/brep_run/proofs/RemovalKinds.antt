@@ -18,10 +18,10 @@ use Rattle.brep_file.specs.declared.records.Record.{Record}
 use Rattle.brep_file.specs.declared.file.File.{File}
 use Rattle.brep_file.specs.PlainRecords.{tree_of_record}
 use Rattle.brep_file.specs.Sound.{IsUse}
-use Rattle.brep_run.specs.Dress.{head_of, made_head}
+use Rattle.brep_writer.specs.Dress.{head_of, made_head}
 use Rattle.brep_run.specs.Completion.{NumbersTell, use_of_tree}
 use Rattle.brep_run.specs.Removal.{removal_step}
-use Rattle.brep_run.proofs.CopyLemmas.{record-at}
+use Rattle.brep_writer.proofs.CopyLemmas.{record-at}
 use Rattle.brep_run.proofs.RemovalTrees.{tree-parts}
 use Rattle.brep_run.proofs.Numbering.{plain_number, uses_of_tree}
 

@@ -14,13 +14,13 @@ use Rattle.expansion_laws.specs.Walk.{RecordsAreTrees}
 use Rattle.brep_file.specs.declared.records.Record.{Record}
 use Rattle.brep_file.specs.declared.file.File.{File}
 use Rattle.brep_file.specs.PlainRecords.{record_of, tree_of_record}
-use Rattle.brep_run.specs.Dress.{head_for, made_head, rebuilt}
+use Rattle.brep_writer.specs.Dress.{head_for, made_head, rebuilt}
 use Rattle.brep_run.specs.Completion.{NumbersTell}
 use Rattle.brep_run.specs.Remaining.{kept_records, tree_after, record_after}
 use Rattle.brep_run.specs.Remaining.{is_touched, touched, IsFileAfter, AreChanges}
 use Rattle.brep_file.specs.Marks.{kept_uses, mark_of}
 use Rattle.brep_run.proofs.KeptLists.{filter-all, any-none}
-use Rattle.brep_run.proofs.WrittenSound.{perhaps}
+use Rattle.brep_writer.proofs.WrittenSound.{perhaps}
 use Rattle.brep_run.proofs.RemovalTrees.{origin-after, touched-is}
 
 -- the records before a place are done, from there on they are as before, and the changes of those that are done are

@@ -19,7 +19,7 @@ use Rattle.brep_run.specs.Completion.{NumbersTell, use_of_tree}
 use Rattle.brep_run.specs.Removal.{removals, removal_step}
 use Rattle.brep_run.specs.Remaining.{is_among, kept_records, tree_after}
 use Rattle.brep_file.specs.Marks.{kept_uses}
-use Rattle.brep_run.proofs.CopyLemmas.{record-at}
+use Rattle.brep_writer.proofs.CopyLemmas.{record-at}
 use Rattle.brep_run.proofs.KeptLists.{filter-yes, filter-no}
 use Rattle.brep_run.proofs.Numbering.{uses_of_tree, plain_number}
 use Rattle.brep_run.proofs.RemovalTrees.{use_after, after-is, names-above}

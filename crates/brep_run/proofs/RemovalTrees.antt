@@ -21,9 +21,9 @@ use Rattle.brep_run.specs.Completion.{NumbersTell, use_of_tree}
 use Rattle.brep_run.specs.Remaining.{kept_records, tree_after, is_touched}
 use Rattle.brep_file.specs.Marks.{kept_uses}
 use Rattle.brep_run.proofs.CompletedTrees.{uses_of-list_of}
-use Rattle.brep_run.proofs.CopyLemmas.{record-at}
+use Rattle.brep_writer.proofs.CopyLemmas.{record-at}
 use Rattle.brep_run.proofs.KeptLists.{filter-all, any-none, map-same, map-kept}
-use Rattle.brep_run.proofs.NumberedRecords.{NamesAboveIts, map-from_end, names_from-numbers}
+use Rattle.brep_writer.proofs.NumberedRecords.{NamesAboveIts, map-from_end, names_from-numbers}
 use Rattle.brep_run.proofs.Numbering.{uses_of_tree}
 
 -- a tree is that of its origin and its uses

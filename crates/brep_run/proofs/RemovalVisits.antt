@@ -22,7 +22,7 @@ use Rattle.brep_run.specs.Completion.{NumbersTell, use_of_tree}
 use Rattle.brep_run.specs.Removal.{removal_step}
 use Rattle.brep_run.specs.Remaining.{kept_records, tree_after}
 use Rattle.brep_file.specs.Marks.{kept_uses}
-use Rattle.brep_run.proofs.CopyLemmas.{record-at}
+use Rattle.brep_writer.proofs.CopyLemmas.{record-at}
 use Rattle.brep_run.proofs.KeptLists.{filter-keeps, filter-member}
 use Rattle.brep_run.proofs.Numbering.{uses_of_tree}
 use Rattle.brep_run.proofs.RemovalTrees.{use_after, uses-after, names-above, kept-number, not-true}

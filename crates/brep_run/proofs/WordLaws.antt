@@ -2,8 +2,11 @@
 use Rattle.std.proofs.Common.{◌≡◌, ℕ, List, [], ◌∷◌, Bool, true, false, if◌then◌else◌, refl, sym, subst, ◌∙◌}
 use Rattle.std.proofs.lemmas.Bool.{eq-eqb}
 use Rattle.std.specs.Prelude.{◌≢◌, ◌&&◌, not, codes}
-use Rattle.brep_run.specs.CommandLine.{copies, rewrites, later, wrong, is_word, may_copy, may_rewrite}
-use Rattle.brep_run.specs.CommandLine.{copy_of_names, rewrite_of_names, is_later, command_line_of}
+use Rattle.std.specs.Prelude.{Option, None, Some}
+use Rattle.shape_listing.specs.declared.listing.Listing.{Listing}
+use Rattle.brep_run.specs.CommandLine.{copies, rewrites, lists, later, wrong, is_word, may_copy, may_rewrite}
+use Rattle.brep_run.specs.CommandLine.{copy_of_names, rewrite_of_names, command_line_of, gen_of_names, list_of_names}
+use Rattle.brep_run.specs.CommandLine.{lists_to, may_make, other_line, shapes_named, walk_named, walk_of_names}
 
 text-same : (a : List ℕ) → is_word a a ≡ true
 text-same [] = refl
@@ -47,15 +50,58 @@ module _ (s p t h : List ℕ) where
       λ same. may-apart a b c d given.0 (given.1.0 ∙ same ∙ sym given.1.1)
   of-rewrite (a ∷ b ∷ c ∷ d ∷ x ∷ rest) e = cc
 
-  pick : (x y z : Bool) (rest : List (List ℕ)) →
-      (if x then copy_of_names rest else (if y then rewrite_of_names rest else (if z then later else wrong)))
+  if-lists : (b : Bool) (a : List ℕ) (l : Listing) (d : List ℕ) → (if b then lists a l d else wrong) ≡ rewrites s p t h
+      → ⊥
+  if-lists true a l d e = cc
+  if-lists false a l d e = cc
+
+  to-lists : (a : List ℕ) (l : Option Listing) (d : List ℕ) → lists_to a l d ≡ rewrites s p t h → ⊥
+  to-lists a None d e = cc
+  to-lists a (Some l) d e = if-lists (may_copy a d) a l d e
+
+  of-list : (names : List (List ℕ)) → list_of_names names ≡ rewrites s p t h → ⊥
+  of-list [] e = cc
+  of-list (a ∷ []) e = cc
+  of-list (a ∷ b ∷ []) e = cc
+  of-list (a ∷ b ∷ c ∷ []) e = to-lists a (shapes_named b) c e
+  of-list (a ∷ b ∷ c ∷ d ∷ rest) e = cc
+
+  of-walk : (names : List (List ℕ)) → walk_of_names names ≡ rewrites s p t h → ⊥
+  of-walk [] e = cc
+  of-walk (a ∷ []) e = cc
+  of-walk (a ∷ b ∷ []) e = cc
+  of-walk (a ∷ b ∷ c ∷ []) e = cc
+  of-walk (a ∷ b ∷ c ∷ d ∷ []) e = to-lists a (walk_named b c) d e
+  of-walk (a ∷ b ∷ c ∷ d ∷ x ∷ rest) e = cc
+
+  if-later : (b : Bool) → (if b then later else wrong) ≡ rewrites s p t h → ⊥
+  if-later true e = cc
+  if-later false e = cc
+
+  of-gen : (names : List (List ℕ)) → gen_of_names names ≡ rewrites s p t h → ⊥
+  of-gen [] e = cc
+  of-gen (a ∷ []) e = cc
+  of-gen (a ∷ b ∷ []) e = cc
+  of-gen (a ∷ b ∷ c ∷ []) e = if-later (may_make a b) e
+  of-gen (a ∷ b ∷ c ∷ d ∷ rest) e = cc
+
+  pick-other : (x y z : Bool) (rest : List (List ℕ)) →
+      (if x then list_of_names rest else (if y then walk_of_names rest else (if z then gen_of_names rest else wrong)))
+      ≡ rewrites s p t h → ⊥
+  pick-other true y z rest e = of-list rest e
+  pick-other false true z rest e = of-walk rest e
+  pick-other false false true rest e = of-gen rest e
+  pick-other false false false rest e = cc
+
+  pick : (x y : Bool) (word : List ℕ) (rest : List (List ℕ)) →
+      (if x then copy_of_names rest else (if y then rewrite_of_names rest else other_line word rest))
       ≡ rewrites s p t h → t ≢ h
-  pick true y z rest e = absurd (of-copy rest e)
-  pick false true z rest e = of-rewrite rest e
-  pick false false true rest e = cc
-  pick false false false rest e = cc
+  pick true y word rest e = absurd (of-copy rest e)
+  pick false true word rest e = of-rewrite rest e
+  pick false false word rest e =
+      absurd (pick-other (is_word word (codes "list")) (is_word word (codes "walk")) (is_word word (codes "gen")) rest e)
 
   pub written-apart : (words : List (List ℕ)) → command_line_of words ≡ rewrites s p t h → t ≢ h
   unfolding command_line_of
   written-apart [] e = cc
-  written-apart (w ∷ rest) e = pick (is_word w (codes "copy")) (is_word w (codes "rewrite")) (is_later w) rest e
+  written-apart (w ∷ rest) e = pick (is_word w (codes "copy")) (is_word w (codes "rewrite")) w rest e

@@ -1,4 +1,5 @@
 -- A name that is opened, written and ended has its text; one whose writing is stopped has a front of it.
+use Rattle.std.specs.Prelude.{◌<◌, ◌^◌}
 use Rattle.std.proofs.Common.{◌≡◌, ℕ, inl, inr, IsTrue, true, false, List, []}
 use Rattle.std.proofs.Common.{length, take, Some, sym, ap, subst, ◌∙◌, arith}
 use Rattle.std.proofs.lemmas.List.{take_all}
@@ -6,6 +7,7 @@ use Rattle.std.proofs.lemmas.Bool.{cases_eq}
 use Rattle.brep_desk.specs.Shown.{writing, Shown, Tells, AreTold, ChangesOnly, Same}
 use Rattle.brep_desk.specs.Calls.{BeginsWriting, Ends, EndsName}
 use Rattle.brep_desk.specs.Transfers.{Appended, NoMoreOpen}
+use Rattle.byte_sink.specs.Sending.{counted_on}
 use Rattle.brep_run.specs.Copy.{OutWritten, PrefixWritten, StoppedAt}
 
 module _ (t : Tells) (told : AreTold t) (a b d : Shown) (name : List ℕ) (c : ℕ) (text : List ℕ) (n : ℕ)
@@ -68,3 +70,10 @@ module _ (t : Tells) (told : AreTold t) (a b d : Shown) (name : List ℕ) (c : �
     ended = ended_then e ends;
     channels = closed_then e ends;
   }
+
+-- a count of fewer than 2 ^ 64 is told as it is
+pub prefix_counted : (t : Tells) (a b : Shown) (name text : List ℕ) (count taken : ℕ) → count < 2 ^ 64
+    → taken ≡ counted_on 0 count → PrefixWritten t a b name text count → PrefixWritten t a b name text taken
+prefix_counted t a b name text count taken few told part =
+    let same : count ≡ taken = omega (arith, few, told) in
+    subst (λ n. PrefixWritten t a b name text n) same part

@@ -22,10 +22,12 @@ use Rattle.brep_file.specs.declared.records.Record.{Record}
 use Rattle.brep_file.specs.declared.file.File.{File}
 use Rattle.brep_file.specs.PlainRecords.{record_of, tree_of_record, expansion_of}
 use Rattle.brep_file.specs.Spelling.{spell_use}
-use Rattle.brep_run.specs.Layout.{Line, heading, location_lines, table_lines, shape_lines, record_lines, layout}
-use Rattle.brep_run.specs.WrittenFile.{location_under, written_use, written_record, written_file, text_of}
+use Rattle.written_layout.specs.Layout.{Line, heading, location_lines, table_lines, shape_lines, record_lines, layout}
+use Rattle.brep_writer.specs.WrittenFile.{location_under, written_use, written_record}
+use Rattle.brep_writer.specs.OwnVersion.{written_file, text_of}
 use Rattle.brep_run.specs.Completion.{NumbersTell, ArePlaced, Completes, AreLocated, use_of_tree, renumbered_use}
-use Rattle.brep_run.specs.Completion.{renumbered, lines_of_number, locations_of, locations_used}
+use Rattle.written_layout.specs.Layout.{locations_of}
+use Rattle.brep_run.specs.Completion.{renumbered, lines_of_number, locations_used}
 use Rattle.brep_run.proofs.Numbering.{head_is, uses_of_tree, number_of_tree}
 use Rattle.brep_run.proofs.LocatedTexts.{location-is, words-are}
 

@@ -15,8 +15,9 @@ use Rattle.brep_run.specs.declared.outcome.LimitKind.TheVariants.{FileBytes, Scr
 use Rattle.brep_run.specs.declared.outcome.Outcome.{Outcome}
 use Rattle.brep_run.specs.declared.outcome.Outcome.TheVariants as outcomes
 use Rattle.brep_run.specs.declared.outcome.ScriptCode.TheVariants.{Syntax, NoSuchShape, NoSuchLocation}
-use Rattle.brep_run.specs.CommandLine.{CommandLine, copies, rewrites, later, wrong, command_line_of}
+use Rattle.brep_run.specs.CommandLine.{CommandLine, copies, rewrites, lists, later, wrong, command_line_of}
 use Rattle.brep_run.specs.Copy.{most_bytes}
+use Rattle.brep_run.specs.Listings.{listing_outcome}
 use Rattle.brep_run.specs.Outcomes.{IsReadDeskOrNoMemory}
 use Rattle.brep_run.specs.Rewrite.{given_for, location_count, most_script_bytes, most_script_lines}
 use Rattle.brep_run.specs.Script.{ScriptGiven, removals, faulty, unbuilt}
@@ -74,6 +75,7 @@ if_script (Some lines) f =
 abbrev pub answer_for : Shown → CommandLine → Answer
 answer_for old (copies source target) = if_file (λ f. outcome outcomes.Done) (old.held source)
 answer_for old (rewrites source script target history) = if_file (if_script (old.held script)) (old.held source)
+answer_for old (lists source listing target) = if_file (λ f. outcome (listing_outcome listing f)) (old.held source)
 answer_for old later = outcome outcomes.NotBuilt
 answer_for old wrong = outcome outcomes.Usage
 

@@ -3,9 +3,7 @@ use Rattle.std.specs.Prelude.{◌≡◌, ℕ, suc, ◌+◌, ◌-◌, ◌<◌, �
 use Rattle.std.specs.Prelude.{List, [], ◌∷◌, ◌++◌, map, length, slice_index, All, Contains}
 use Rattle.std.specs.Option.{option_map_or}
 use Rattle.std.specs.List.{flat_map, join_with_byte}
-use Rattle.location_table.specs.declared.entry.LocationEntry.{LocationEntry}
-use Rattle.location_table.specs.Words.{datums_of, word_of_place}
-use Rattle.location_table.specs.Written.{written_section}
+use Rattle.location_table.specs.Words.{word_of_place}
 use Rattle.written_locations.specs.declared.written.WrittenLocations.{WrittenLocations}
 use Rattle.written_locations.specs.Further.{further_words}
 use Rattle.written_locations.specs.Added.{further_of, IsAdded, IsNumbering}
@@ -21,9 +19,10 @@ use Rattle.brep_file.specs.declared.uses.FileUse.{FileUse}
 use Rattle.brep_file.specs.declared.records.Record.{Record}
 use Rattle.brep_file.specs.declared.file.File.{File}
 use Rattle.brep_file.specs.Spelling.{spell_use}
-use Rattle.brep_file.specs.PlainRecords.{plain_use, plain_records, record_of, tree_of_record}
+use Rattle.brep_file.specs.PlainRecords.{expansion_of, plain_use, plain_records, record_of, tree_of_record}
 use Rattle.brep_run.specs.declared.writer.order.Order.{Order}
-use Rattle.brep_run.specs.Layout.{record_lines}
+use Rattle.written_layout.specs.Layout.{record_lines, shape_lines}
+use Rattle.brep_writer.specs.OwnVersion.{written_file}
 use Rattle.brep_file.specs.Sound.{IsSound}
 
 -- the numbers of a sound file's records tell its trees apart
@@ -129,6 +128,8 @@ pub record AreLocated (f : File) (locations : List ℕ) (s : WrittenLocations) :
   pub words : further_of s ≡ further_words (map (word_of_place f.locations) locations)
   pub added : (k : ℕ) → Contains locations k → IsAdded s k
 
--- the locations that are written: the datums, and the further words
-abbrev pub locations_of : WrittenLocations → List LocationEntry
-locations_of s = written_section (datums_of s.section.now) (further_of s)
+-- ---- the whole
+
+-- the text of the records and of the root use, where a file's expansion is written
+abbrev pub written_records : File → List ℕ
+written_records f = lines_text (shape_lines (written_file f (expansion_of f)))

@@ -11,7 +11,7 @@ use Rattle.brep_file.specs.PlainRecords.{expansion_of}
 use Rattle.brep_file.specs.Reads.{Reads}
 use Rattle.brep_run.specs.declared.outcome.LimitKind.{LimitKind}
 use Rattle.brep_run.specs.declared.outcome.LimitKind.TheVariants.{FileBytes}
-use Rattle.brep_run.specs.WrittenFile.{text_of}
+use Rattle.brep_writer.specs.OwnVersion.{text_of}
 
 -- the greatest number of bytes of a file
 abbrev pub most_bytes : ℕ

@@ -7,6 +7,7 @@ use Rattle.brep_run.specs.declared.outcome.Outcome.{Outcome}
 use Rattle.brep_run.specs.declared.outcome.Outcome.TheVariants as outcomes
 use Rattle.brep_run.specs.declared.outcome.LimitKind.{LimitKind}
 use Rattle.brep_run.specs.declared.outcome.LimitKind.TheVariants.{FileBytes, ScriptBytes, ScriptLines}
+use Rattle.brep_run.specs.declared.outcome.LimitKind.TheVariants.{Keys, WordPairs, WordPower, Pairs}
 use Rattle.brep_run.specs.Copy.{Counts, HoldsFault, IsFileLimit}
 use Rattle.brep_run.specs.Rewrite.{HasMoreLines, given_for, location_count, most_script_bytes, most_script_lines}
 use Rattle.brep_run.specs.Script.{IsRefusedAt, unbuilt}
@@ -33,6 +34,10 @@ IsScriptLimit t old script FileBytes count = ⊥
 IsScriptLimit t old script ScriptBytes count = (count ≡ most_script_bytes + 1) × IsLonger t old script most_script_bytes
 IsScriptLimit t old script ScriptLines count =
     (count ≡ most_script_lines + 1) × (IsTrue t.held → HasMoreLines old script)
+IsScriptLimit t old script Keys count = ⊥
+IsScriptLimit t old script WordPairs count = ⊥
+IsScriptLimit t old script WordPower count = ⊥
+IsScriptLimit t old script Pairs count = ⊥
 
 -- why no script is read from the name
 abbrev pub IsScriptStop : Tells → Shown → List ℕ → ℕ → ℕ → Outcome → Type 0

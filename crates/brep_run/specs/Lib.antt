@@ -1,6 +1,3 @@
-pub mod Dress
-pub mod Layout
-pub mod WrittenFile
 pub mod Copies
 pub mod CommandLine
 pub mod Outcomes
@@ -11,6 +8,8 @@ pub mod Completion
 pub mod Remaining
 pub mod Removal
 pub mod Rewrite
+pub mod Listings
 pub mod Inputs
 pub mod Answering
 pub mod Runs
+pub mod Loaded

@@ -12,6 +12,7 @@ use Rattle.brep_run.specs.declared.outcome.Outcome.TheVariants.{Done, Usage, Not
 use Rattle.brep_run.specs.declared.outcome.Outcome.TheVariants.{Limit, ReadDesk, WriteDesk, NoMemory}
 use Rattle.brep_run.specs.declared.outcome.LimitKind.{LimitKind}
 use Rattle.brep_run.specs.declared.outcome.LimitKind.TheVariants.{FileBytes, ScriptBytes, ScriptLines}
+use Rattle.brep_run.specs.declared.outcome.LimitKind.TheVariants.{Keys, WordPairs, WordPower, Pairs}
 use Rattle.brep_run.specs.declared.outcome.ScriptCode.{ScriptCode}
 use Rattle.brep_run.specs.declared.outcome.ScriptCode.TheVariants.{Syntax, NoSuchShape, NoSuchLocation}
 
@@ -30,6 +31,10 @@ abbrev pub limit_word : LimitKind → List ℕ
 limit_word FileBytes = codes "file-bytes"
 limit_word ScriptBytes = codes "script-bytes"
 limit_word ScriptLines = codes "script-lines"
+limit_word Keys = codes "keys"
+limit_word WordPairs = codes "word-pairs"
+limit_word WordPower = codes "word-power"
+limit_word Pairs = codes "pairs"
 
 abbrev pub code_word : ReadCode → List ℕ
 code_word NoVersion = codes "no-version"

@@ -14,9 +14,9 @@ use Rattle.brep_file.specs.declared.file.File.{File}
 use Rattle.brep_file.specs.Marks.{kept_uses, mark_of}
 use Rattle.brep_file.specs.PlainRecords.{plain_use, record_of, tree_of_record, expansion_of}
 use Rattle.brep_run.specs.declared.removal.Removal.{Removal}
-use Rattle.brep_run.specs.Dress.{head_for, head_of, rebuilt}
+use Rattle.brep_writer.specs.Dress.{head_for, head_of, rebuilt}
 use Rattle.brep_run.specs.Completion.{ArePlaced, Completes, new_number}
-use Rattle.brep_run.specs.WrittenFile.{text_of}
+use Rattle.brep_writer.specs.OwnVersion.{text_of}
 
 -- whether a number is one of these
 abbrev pub is_among : List ℕ → ℕ → Bool

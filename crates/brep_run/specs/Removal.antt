@@ -15,9 +15,9 @@ use Rattle.expansion_laws.specs.Measures.{OccursIn}
 use Rattle.brep_file.specs.declared.file.File.{File}
 use Rattle.brep_file.specs.PlainRecords.{tree_of_record, expansion_of}
 use Rattle.brep_run.specs.declared.removal.Removal.{Removal}
-use Rattle.brep_run.specs.Dress.{head_of}
-use Rattle.brep_run.specs.Copies.{CanBeWritten}
-use Rattle.brep_run.specs.WrittenFile.{text_of}
+use Rattle.brep_writer.specs.Dress.{head_of}
+use Rattle.brep_writer.specs.Copies.{CanBeWritten}
+use Rattle.brep_writer.specs.OwnVersion.{text_of}
 
 -- the kind of an origin: that of its record, and a compound for 0
 abbrev pub kind_of_origin : File → ℕ → Kind

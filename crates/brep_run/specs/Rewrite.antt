@@ -12,9 +12,10 @@ use Rattle.step_history.specs.History.{modified}
 use Rattle.brep_file.specs.declared.file.File.{File}
 use Rattle.brep_run.specs.declared.outcome.LimitKind.{LimitKind}
 use Rattle.brep_run.specs.declared.outcome.LimitKind.TheVariants.{FileBytes, ScriptBytes, ScriptLines}
+use Rattle.brep_run.specs.declared.outcome.LimitKind.TheVariants.{Keys, WordPairs, WordPower, Pairs}
 use Rattle.brep_run.specs.declared.outcome.ScriptFault.{ScriptFault}
 use Rattle.brep_file.specs.Reads.{Reads}
-use Rattle.brep_run.specs.WrittenFile.{text_of}
+use Rattle.brep_writer.specs.OwnVersion.{text_of}
 use Rattle.brep_run.specs.Copies.{IsTextFor}
 use Rattle.brep_run.specs.Copy.{Holds, OutWritten, PrefixWritten, FirstStopped, most_bytes}
 use Rattle.brep_run.specs.Removal.{IsRootAfter, history_after, origins_written, ArePairsOf, AreNumbersOf}
@@ -161,3 +162,7 @@ IsRewriteLimit t old source script ScriptBytes count =
     × (IsTrue t.held → (f : File) × HoldsFile old source f)
 IsRewriteLimit t old source script ScriptLines count =
     (count ≡ most_script_lines + 1) × (IsTrue t.held → (f : File) × HoldsFile old source f × HasMoreLines old script)
+IsRewriteLimit t old source script Keys count = ⊥
+IsRewriteLimit t old source script WordPairs count = ⊥
+IsRewriteLimit t old source script WordPower count = ⊥
+IsRewriteLimit t old source script Pairs count = ⊥

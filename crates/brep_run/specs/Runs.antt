@@ -9,18 +9,20 @@ use Rattle.brep_file.specs.PlainRecords.{expansion_of}
 use Rattle.brep_file.specs.Reads.{Spells}
 use Rattle.brep_run.specs.declared.outcome.LimitKind.{LimitKind}
 use Rattle.brep_run.specs.declared.outcome.ScriptFault.{ScriptFault}
-use Rattle.brep_run.specs.CommandLine.{CommandLine, copies, rewrites, later, wrong, command_line_of}
+use Rattle.shape_listing.specs.declared.listing.Listing.{Listing}
+use Rattle.brep_run.specs.CommandLine.{CommandLine, copies, rewrites, lists, later, wrong, command_line_of}
 use Rattle.brep_run.specs.Copies.{IsTextFor, SharesEqualTrees}
 use Rattle.brep_run.specs.Copy.{HoldsFault, IsCopied, IsCopyStopped, IsFileLimit}
+use Rattle.brep_run.specs.Listings.{IsListed, IsListingLimit, IsListingStopped}
 use Rattle.brep_run.specs.Rewrite.{HoldsFile, NoStrayOnInputs, IsRewritten, IsRewrittenRoot, IsRewriteStopped}
 use Rattle.brep_run.specs.Rewrite.{IsRewriteUnbuilt, IsRefusedLine, IsRewriteLimit}
 
 pub record Due : Type 1 where
   -- the texts due stand whole under the names that are written
   pub finished : Type 0
-  -- the written file, fully expanded, is the root due
+  -- where a file is written: fully expanded it is the root due
   pub expands : Type 0
-  -- in it two occurrences go through one record exactly where their trees are equal
+  -- and in it two occurrences go through one record exactly where their trees are equal
   pub shares : Type 0
   -- a fault stopped the writing of this output after so many bytes
   pub stopped : ℕ → ℕ → Type 0
@@ -95,9 +97,24 @@ of_rewrite t old new source script target history = record {
   no_strays = NoStrayOnInputs t old new source script;
 }
 
+-- What is written is no file.
+abbrev pub of_listing : Tells → Shown → Shown → List ℕ → Listing → List ℕ → Due
+of_listing t old new source listing target = record {
+  finished = IsListed t old new source listing target;
+  expands = Unit {0};
+  shares = Unit {0};
+  stopped = IsListingStopped t old new source listing target;
+  file = λ fault. IsTrue t.held → HoldsFault old source fault;
+  script = λ fault. ⊥;
+  limit = IsListingLimit t old source listing;
+  not_built = ⊥;
+  no_strays = NoStrayOnHeld t old new source;
+}
+
 abbrev pub due_of : Tells → Shown → Shown → CommandLine → Due
 due_of t old new (copies source target) = of_copy t old new source target
 due_of t old new (rewrites source script target history) = of_rewrite t old new source script target history
+due_of t old new (lists source listing target) = of_listing t old new source listing target
 due_of t old new later = record (of_no_command t old new) { not_built = Unit {0} }
 due_of t old new wrong = of_no_command t old new
 

@@ -1,9 +1,11 @@
 //! The command line: which command the words spell, and the names that it reads and writes.
 ghost use Rattle.std.specs.Prelude.{◌≡◌};
 ghost use Rattle.brep_run.specs.CommandLine.{IsCommandLine, command_line_of, copy_of_names};
-ghost use Rattle.brep_run.specs.CommandLine.{is_later, may_copy, may_rewrite, rewrite_of_names};
+ghost use Rattle.brep_run.specs.CommandLine.{may_copy, may_rewrite, other_line, rewrite_of_names};
 
+use crate::listing_words::{gen_line, list_line, walk_line};
 use brep_desk::NameText;
+use shape_listing::Listing;
 
 /// A command with its names, which are borrowed from the words.
 #[derive(Clone, Copy)]
@@ -18,11 +20,16 @@ pub(crate) enum CommandLine<'a> {
         target: &'a str,
         history: &'a str,
     },
+    Lists {
+        source: &'a str,
+        listing: Listing,
+        target: &'a str,
+    },
     Later,
     Wrong,
 }
 
-fn may_be_copied(source: &str, target: &str) -> bool
+pub(crate) fn may_be_copied(source: &str, target: &str) -> bool
     ensures { result ≡ may_copy source.now target.now }
 {
     source != target || source == "-"
@@ -34,12 +41,6 @@ fn may_be_rewritten(source: &str, script: &str, target: &str, history: &str) -> 
     (source != script && target != history)
         && ((may_be_copied(source, target) && may_be_copied(source, history))
             && (may_be_copied(script, target) && may_be_copied(script, history)))
-}
-
-fn is_later_command(word: &str) -> bool
-    ensures { result ≡ is_later word.now }
-{
-    word == "list" || word == "walk" || word == "gen"
 }
 
 fn copy_line(names: &[NameText]) -> CommandLine<'_>
@@ -86,6 +87,21 @@ fn rewrite_line(names: &[NameText]) -> CommandLine<'_>
     }
 }
 
+/// The command line of a word that is neither `copy` nor `rewrite`.
+fn line_of_others<'a>(word: &str, rest: &'a [NameText]) -> CommandLine<'a>
+    ensures { IsCommandLine result (other_line word.now rest.now) }
+{
+    if word == "list" {
+        list_line(rest)
+    } else if word == "walk" {
+        walk_line(rest)
+    } else if word == "gen" {
+        gen_line(rest)
+    } else {
+        CommandLine::Wrong
+    }
+}
+
 /// The command line that the words spell. No words at all are the same as `copy - -`.
 #[tactic(auto, unfolding(crate::specs::CommandLine::command_line_of))]
 pub(crate) fn command_line(words: &[NameText]) -> CommandLine<'_>
@@ -101,10 +117,8 @@ pub(crate) fn command_line(words: &[NameText]) -> CommandLine<'_>
                 copy_line(rest)
             } else if word.text() == "rewrite" {
                 rewrite_line(rest)
-            } else if is_later_command(word.text()) {
-                CommandLine::Later
             } else {
-                CommandLine::Wrong
+                line_of_others(word.text(), rest)
             }
         }
     }

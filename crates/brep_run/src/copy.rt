@@ -1,25 +1,59 @@
 //! `copy`: reads a file, and writes it again by the written layout.
-ghost use Rattle.std.specs.Prelude.{◌≤◌, IsTrue};
+ghost use Rattle.std.specs.Prelude.{◌≡◌, ◌^◌, ◌<◌, ◌≤◌, IfOk, IsTrue, OnErr, OnOk, length};
 ghost use Rattle.brep_desk.specs.Strays.{KeepsStrays, NoStrayOnHeld};
 ghost use Rattle.brep_desk.specs.Transfers.{NothingWritten};
+ghost use Rattle.brep_desk.specs.WritingCalls.{KeepsWritingCalls, RoseWritingCalls};
+ghost use Rattle.brep_file.specs.PlainRecords.{expansion_of};
+ghost use Rattle.brep_file.specs.Sound.{IsSound, IsWithinLimits};
 ghost use Rattle.brep_run.specs.Outcomes.{OnDone, OnUsage, OnNotBuilt, OnWriting, IfFile, IfLimit};
 ghost use Rattle.brep_run.specs.Outcomes.{IfScript, IfStopped, IfDeskFault, UnlessWriting};
-ghost use Rattle.brep_desk.specs.WritingCalls.{KeepsWritingCalls, RoseWritingCalls};
 ghost use Rattle.brep_run.specs.Copy.{Counts, HoldsFault, OutWritten, FirstStopped};
 ghost use Rattle.brep_run.specs.Copy.{IsCopied, IsCopyStopped, IsFileLimit};
+ghost use Rattle.brep_run.specs.Loaded.{IsLoadedCopy};
+ghost use Rattle.brep_writer.specs.OwnVersion.{text_of};
+ghost use Rattle.brep_writer.specs.Copies.{IsOfFewBytes};
+ghost use Rattle.brep_writer.specs.Plans.{plan_text, IsPlan};
 
 use crate::input::read_input;
 use crate::outcome::Outcome;
-use crate::writer::copy_text;
-use brep_desk::{Desk, write_all};
-use std::alloc::Global;
+use brep_desk::Desk;
+use brep_file::File;
+use brep_writer::WritePlan;
+use brep_writer::laws::copies_are_countable;
+use file_loading::load_file;
+use location_words::Words;
+use shape_pool::{Pool, UseOf};
+use std::alloc::{AllocError, Global};
 
-/// Writes the text under the name, whole and ended.
-pub(crate) fn write_out<D: Desk>(desk: &mut D, target: &str, text: &[u8]) -> Outcome
+/// A pool and a table of words that a file was loaded into, and its root.
+#[derive(Drop)]
+pub(crate) struct LoadedFile {
+    pub(crate) pool: Pool,
+    pub(crate) words: Words,
+    pub(crate) root: UseOf,
+}
+
+/// Loads a file into a pool of its own.
+fn loaded(alloc: Global, file: &File) -> Result<LoadedFile, AllocError>
+    requires sound { IsSound file.now }
+    requires within { IsWithinLimits file.now }
+    ensures { IfOk result (IsLoadedCopy file.now) }
+{
+    let mut pool = Pool::new(alloc)?;
+    let mut words = Words::new(alloc)?;
+    let root = load_file(alloc, file, &mut pool, &mut words)?;
+    Ok(LoadedFile { pool, words, root })
+}
+
+/// Writes the text of a plan under the name, whole and ended.
+fn write_plan<D: Desk>(desk: &mut D, target: &str, plan: &WritePlan<'_>) -> Outcome
+    requires plan { IsPlan plan.now }
+    requires countable { length (plan_text plan.now) < 2 ^ 64 }
     ensures later { D.faults desk.old ≤ D.faults desk.new }
-    ensures done { OnDone result (OutWritten D.tells (D.shows desk.old) (D.shows desk.new) target.now text.now) }
+    ensures done { OnDone result (OutWritten D.tells (D.shows desk.old) (D.shows desk.new) target.now
+        (plan_text plan.now)) }
     ensures stopped { IfStopped result (FirstStopped D.tells (D.shows desk.old) (D.shows desk.new)
-        target.now text.now) }
+        target.now (plan_text plan.now)) }
     ensures counts { IfDeskFault result (Counts (D.faults desk.old) (D.faults desk.new)) }
     ensures either { UnlessWriting result ⊥ }
     ensures strays { KeepsStrays D.tells (D.shows desk.old) (D.shows desk.new) }
@@ -37,8 +71,8 @@ pub(crate) fn write_out<D: Desk>(desk: &mut D, target: &str, text: &[u8]) -> Out
             };
         }
     };
-    match write_all(desk, c, text) {
-        Ok(()) => {}
+    let taken = match plan.emit(desk, c) {
+        Ok(taken) => taken,
         Err(stop) => {
             return Outcome::WriteDesk {
                 before,
@@ -47,19 +81,53 @@ pub(crate) fn write_out<D: Desk>(desk: &mut D, target: &str, text: &[u8]) -> Out
                 taken: stop.taken,
             };
         }
-    }
+    };
     match desk.end(c) {
         Ok(()) => Outcome::Done,
         Err(_) => Outcome::WriteDesk {
             before,
             after: desk.faults(),
             file: 1,
-            taken: text.len() as u64,
+            taken,
         },
     }
 }
 
-/// Reads the one name and writes its copy under the other. The text is made whole before the writing begins.
+/// Writes the copy of a file under the name, whole and ended. Where memory is wanting, the desk isn't called.
+fn write_copy<D: Desk>(
+    alloc: Global,
+    desk: &mut D,
+    file: &File,
+    target: &str,
+) -> Result<Outcome, AllocError>
+    requires sound { IsSound file.now }
+    requires within { IsWithinLimits file.now }
+    requires few { IsOfFewBytes file.now }
+    ensures done { IfOk result (λ o. OnDone o (OutWritten D.tells (D.shows desk.old) (D.shows desk.new) target.now
+        (text_of file.now (expansion_of file.now)))) }
+    ensures stopped { IfOk result (λ o. IfStopped o (FirstStopped D.tells (D.shows desk.old) (D.shows desk.new)
+        target.now (text_of file.now (expansion_of file.now)))) }
+    ensures counts { IfOk result (λ o. IfDeskFault o (Counts (D.faults desk.old) (D.faults desk.new))) }
+    ensures either { IfOk result (λ o. UnlessWriting o ⊥) }
+    ensures strays { OnOk result (KeepsStrays D.tells (D.shows desk.old) (D.shows desk.new)) }
+    ensures writing_calls { OnOk result (RoseWritingCalls D.tells (D.shows desk.old) (D.shows desk.new)) }
+    ensures untouched { OnErr result (desk.new ≡ desk.old) }
+{
+    copies_are_countable();
+    let loaded = loaded(alloc, file)?;
+    let plan = WritePlan::new(
+        alloc,
+        file,
+        &loaded.pool,
+        &loaded.words,
+        loaded.root,
+        file.version,
+    )?;
+    Ok(write_plan(desk, target, &plan))
+}
+
+/// Reads the one name and writes its copy under the other. How it is written is planned before the writing begins, and
+/// no text is held.
 pub(crate) fn copy<D: Desk>(alloc: Global, desk: &mut D, source: &str, target: &str) -> Outcome
     ensures done { OnDone result (IsCopied D.tells (D.shows desk.old) (D.shows desk.new) source.now target.now) }
     ensures stopped { IfStopped result (IsCopyStopped D.tells (D.shows desk.old) (D.shows desk.new)
@@ -79,8 +147,8 @@ pub(crate) fn copy<D: Desk>(alloc: Global, desk: &mut D, source: &str, target: &
         Ok(input) => input,
         Err(stop) => return stop,
     };
-    match copy_text(alloc, &input.file, input.size) {
-        Ok(text) => write_out(desk, target, &text),
+    match write_copy(alloc, desk, &input.file, target) {
+        Ok(outcome) => outcome,
         Err(_) => Outcome::NoMemory,
     }
 }

@@ -1,9 +1,10 @@
 //! Reads the inputs of a run: a file, and the script that goes with it.
-ghost use Rattle.std.specs.Prelude.{◌≡◌, ◌≤◌, ◌<◌, ◌-◌, ◌^◌, All, IfErr, IfOk, IsTrue, OnOk, Some, length};
+ghost use Rattle.std.specs.Prelude.{◌≡◌, ◌≤◌, ◌<◌, ◌-◌, ◌^◌, All, IfErr, IfOk, IsTrue, OnOk, length};
 ghost use Rattle.brep_desk.specs.Strays.{NoStrayOnHeld};
 ghost use Rattle.brep_desk.specs.Transfers.{IsAllHeld, NothingWritten, NoMoreOpen};
 ghost use Rattle.brep_desk.specs.WritingCalls.{KeepsWritingCalls};
 ghost use Rattle.brep_file.specs.Sound.{IsWithinLimits, IsSound};
+ghost use Rattle.brep_writer.specs.Copies.{IsOfFewBytes};
 ghost use Rattle.brep_run.specs.Inputs.{IsBytesStop, IsInputStop, IsLinesStop, IsScriptStop};
 ghost use Rattle.brep_run.specs.Rewrite.{HoldsFile, HoldsScript, given_for, most_script_lines};
 ghost use Rattle.brep_run.specs.Script.{removals};
@@ -80,6 +81,7 @@ pub(crate) fn read_input<D: Desk>(
     ensures read { IfOk result (λ input. IsTrue D.tells.held → HoldsFile (D.shows desk.old) source.now input.file) }
     ensures sound { IfOk result (λ input. IsSound input.file) }
     ensures small { IfOk result (λ input. IsWithinLimits input.file) }
+    ensures few { IfOk result (λ input. IsOfFewBytes input.file) }
     ensures stop { IfErr result (IsInputStop D.tells (D.shows desk.old) source.now
         (D.faults desk.old) (D.faults desk.new)) }
     ensures closes { OnOk result (IsTrue D.tells.opened → NoMoreOpen (D.shows desk.old) (D.shows desk.new)) }

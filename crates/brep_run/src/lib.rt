@@ -4,8 +4,10 @@
 mod command_line;
 mod copy;
 mod input;
-pub mod laws;
+mod listing;
+mod listing_words;
 mod outcome;
+mod output;
 mod removal;
 mod rewrite;
 mod script;

@@ -8,12 +8,17 @@ use std::alloc::{AllocError, Global};
 use std::marker::Model;
 
 /// A quantity with a limit: the number of bytes of the file that is read, and those of bytes and of lines of its
-/// script.
+/// script; of a listing the number of shapes that are met, those of pairs in an accumulated word, the size of a power in
+/// one, and the number of pairs of a shape and one above it.
 #[derive(Clone, Copy, Debug, PartialEq, Eq)]
 pub enum LimitKind {
     FileBytes,
     ScriptBytes,
     ScriptLines,
+    Keys,
+    WordPairs,
+    WordPower,
+    Pairs,
 }
 
 /// Why a line of a script is refused. At `Syntax`, where it spells no command, `first` and `second` are 0. At
@@ -123,6 +128,10 @@ fn limit_word(which: LimitKind) -> &'static str
         LimitKind::FileBytes => "file-bytes",
         LimitKind::ScriptBytes => "script-bytes",
         LimitKind::ScriptLines => "script-lines",
+        LimitKind::Keys => "keys",
+        LimitKind::WordPairs => "word-pairs",
+        LimitKind::WordPower => "word-power",
+        LimitKind::Pairs => "pairs",
     }
 }
 

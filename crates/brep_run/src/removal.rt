@@ -1,22 +1,23 @@
 //! Removes shapes from a file: the text of what remains, and what the history of the removal says.
-ghost use Rattle.brep_run.specs.Completion.{ArePlaced, Completes, NumbersTell};
-ghost use Rattle.brep_run.specs.Remaining.{AreMarks, RootGoes, StaysIn};
+ghost use Rattle.brep_run.specs.Completion.{ArePlaced, NumbersTell};
+ghost use Rattle.brep_run.specs.Remaining.{RootGoes, StaysIn};
 ghost use Rattle.brep_run.specs.Removal.{IsRemovalOf};
 ghost use Rattle.brep_file.specs.Sound.{IsSound};
 ghost use Rattle.expansion_laws.specs.Expansion.{IsNumberOf};
-ghost use Rattle.std.specs.Prelude.{◌≡◌, All, IfOk, [], false, length, true};
+ghost use Rattle.std.specs.Prelude.{◌≡◌, All, IfOk, length};
 
 mod history;
 mod marks;
 mod remaining;
 
-use crate::laws::texts_stand_for_roots;
 use crate::writer::{Order, made_text, order_of, text_in_order};
 use brep_file::{File, is_marked};
 use brep_tokens::Numbers;
+use brep_writer::laws::texts_stand_for_roots;
 use expansion_laws::laws::{
     equal_trees_tell, records_are_trees, results_are_determined, roots_are_written, subtrees_stand,
 };
+use file_loading::laws::sound_files_have_trees;
 use history::{gone_numbers, modified_pairs, origins_in};
 use history_text::NumberPairs;
 use marks::marked;
@@ -65,6 +66,7 @@ fn root_stays(
     ensures { IfOk result (StaysIn file marks.now before.now.places.items) }
 {
     records_are_trees();
+    sound_files_have_trees();
     equal_trees_tell();
     let remaining = without_marked(alloc, file, marks)?;
     let after = order_of(alloc, &remaining.file)?;
@@ -89,6 +91,7 @@ pub(crate) fn remove_shapes(
     ensures { IfOk result (IsRemovalOf file numbers.now) }
 {
     records_are_trees();
+    sound_files_have_trees();
     equal_trees_tell();
     results_are_determined();
     roots_are_written();

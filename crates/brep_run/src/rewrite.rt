@@ -15,13 +15,13 @@ ghost use Rattle.brep_run.specs.Rewrite.{IsRefusedLine, IsRewriteLimit, IsRewrit
 ghost use Rattle.brep_run.specs.Rewrite.{IsRewriteUnbuilt, IsRewritten};
 ghost use Rattle.brep_file.specs.Sound.{IsSound};
 
-use crate::copy::write_out;
 use crate::input::{read_input, read_script, removed_from};
-use crate::laws::texts_stand_for_roots;
 use crate::outcome::Outcome;
+use crate::output::write_out;
 use crate::removal::remove_shapes;
 use brep_desk::Desk;
 use brep_file::File;
+use brep_writer::laws::texts_stand_for_roots;
 use expansion_laws::laws::roots_are_written;
 use history_text::{HistoryFile, NumberPairs, emit};
 use std::alloc::{AllocError, Global};

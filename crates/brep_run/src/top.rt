@@ -11,19 +11,22 @@ ghost use Rattle.brep_run.specs.Runs.{due};
 
 use crate::command_line::{CommandLine, command_line};
 use crate::copy::copy;
-use crate::laws::texts_stand_for_roots;
+use crate::listing::list;
 use crate::outcome::Outcome;
 use crate::rewrite::rewrite;
 use brep_desk::{CommandWords, Desk, Steps};
 use brep_file::laws::reading_is_exact;
+use brep_writer::laws::texts_stand_for_roots;
 use expansion_laws::laws::records_are_trees;
+use file_loading::laws::sound_files_have_trees;
 use std::alloc::Global;
 use std::sync::ledger::Ledger;
 
 /// Does all that the program does, for the words after its name: `copy IN OUT` reads the file IN and writes it to OUT
 /// by the written layout; `rewrite IN SCRIPT OUT HIST` reads the file IN, removes the shapes that SCRIPT names, and
-/// writes what remains to OUT and the history of the removal to HIST. Names are names of the desk; `-` may be read and
-/// written.
+/// writes what remains to OUT and the history of the removal to HIST; `list IN KIND OUT` and `walk IN KIND N OUT` read
+/// the file IN and write the shapes and the first N occurrences of a kind to OUT. Names are names of the desk; `-` may be
+/// read and written.
 /// The outcomes have these statuses: `Done` 0, `Usage` 2, `File` 3, `Script` 4, `Limit` 6, `ReadDesk` 7, `WriteDesk` 8,
 /// `NoMemory` 9, `NotBuilt` 10.
 pub fn run<D: Desk, L: Ledger>(
@@ -32,8 +35,9 @@ pub fn run<D: Desk, L: Ledger>(
     desk: &mut D,
     steps: &mut Steps<L>,
 ) -> Outcome
-    // Done: the texts due stand whole under their names; OUT spells one file, which expands to the dressed root that is
-    // due; and in that file two occurrences go through one record exactly where their trees are equal.
+    // Done: the texts due stand whole under their names; where OUT is to be a file, it spells one, which expands to the
+    // dressed root that is due; and in that file two occurrences go through one record exactly where their trees are
+    // equal.
     ensures done { OnDone result (due D.tells (D.shows desk.old) (D.shows desk.new) words.now).finished }
     ensures expands { OnDone result (due D.tells (D.shows desk.old) (D.shows desk.new) words.now).expands }
     ensures shares { OnDone result (due D.tells (D.shows desk.old) (D.shows desk.new) words.now).shares }
@@ -69,9 +73,15 @@ pub fn run<D: Desk, L: Ledger>(
     reading_is_exact();
     texts_stand_for_roots();
     records_are_trees();
+    sound_files_have_trees();
     match command_line(words.as_slice()) {
         CommandLine::Wrong => Outcome::Usage,
         CommandLine::Later => Outcome::NotBuilt,
+        CommandLine::Lists {
+            source,
+            listing,
+            target,
+        } => list(alloc, desk, source, listing, target),
         CommandLine::Copy { source, target } => copy(alloc, desk, source, target),
         CommandLine::Rewrite {
             source,

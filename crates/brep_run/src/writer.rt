@@ -3,57 +3,30 @@ ghost use Rattle.brep_file.specs.declared.file.File.{File};
 ghost use Rattle.brep_file.specs.PlainRecords.{expansion_of};
 ghost use Rattle.brep_file.specs.Sound.{IsSound};
 ghost use Rattle.brep_run.specs.Completion.{ArePlaced, AreLocated, Completes, NumbersTell};
-ghost use Rattle.brep_run.specs.Completion.{lines_of_numbers, locations_of, locations_used};
-ghost use Rattle.brep_run.specs.Layout.{text_before_records};
+ghost use Rattle.brep_run.specs.Completion.{lines_of_numbers, locations_used, written_records};
 ghost use Rattle.brep_run.specs.Remaining.{made_root};
-ghost use Rattle.brep_run.specs.WrittenFile.{text_of, written_records};
-ghost use Rattle.brep_tokens.specs.Tokens.{version_line};
-ghost use Rattle.std.specs.Prelude.{◌≡◌, ◌⊎◌, ◌∷◌, ◌++◌, IfOk, [], length};
-ghost use Rattle.written_locations.specs.Added.{IsNumbering, location_number};
+ghost use Rattle.brep_writer.specs.OwnVersion.{text_of};
+ghost use Rattle.std.specs.Prelude.{◌≡◌, IfOk, [], length};
+ghost use Rattle.written_locations.specs.Added.{location_number};
 
 mod lines;
 mod locations;
 mod order;
-mod tables;
 
 use brep_file::File;
 use byte_sink::laws::texts_are_kept;
 use byte_sink::{TakesBytes, TextBytes};
-use expansion_laws::laws::{equal_trees_tell, records_are_trees};
-use lines::{push_heading, push_record, push_use};
-use locations::{locations_in, push_locations};
+use lines::push_record;
+use location_words::Words;
+use locations::locations_in;
 pub(crate) use order::{Order, order_of, record_at};
 use std::alloc::{AllocError, Global};
-use tables::push_tables;
 use tshape_data::laws::renumbering_keeps_parts;
+use written_layout::{push_beginning, push_heading, push_use};
 use written_locations::WrittenLocations;
-
-/// The version line of version 1, and of version 2.
-fn version_bytes(version: u8) -> &'static [u8]
-    requires { (version ≡ 1) ⊎ (version ≡ 2) }
-    ensures { result.now ≡ version_line version ++ 10 ∷ [] }
-{
-    if version == 2 {
-        b"CASCADE Topology V2, (c) Matra-Datavision\n"
-    } else {
-        b"CASCADE Topology V1, (c) Matra-Datavision\n"
-    }
-}
 
 /// The lines of a compound without uses that is made as the root, and of its use.
 const MADE_COMPOUND: &[u8] = b"TShapes 1\nCo\n\n1101000\n*\n+1 0\n";
-
-/// The version line, the locations and the tables.
-fn push_beginning<B: TakesBytes>(text: &mut B, file: &File, locations: &WrittenLocations<'_>)
-    requires sound { IsSound file.now }
-    requires numbering { IsNumbering locations.now }
-    requires section { locations.now.section.now ≡ file.now.locations }
-    ensures { B.gives text.old (text_before_records file.now (locations_of locations.now)) text.new }
-{
-    text.push(version_bytes(file.version));
-    push_locations(text, locations);
-    push_tables(text, file);
-}
 
 /// The lines of the records in their order.
 fn push_records<B: TakesBytes>(
@@ -119,23 +92,12 @@ pub(crate) fn text_in_order(
     ensures { IfOk result (λ text. text.items ≡ text_of file.now (expansion_of file.now)) }
 {
     texts_are_kept();
-    let locations = locations_in(alloc, file, order)?;
+    let words = Words::new(alloc)?;
+    let locations = locations_in(alloc, file, &words, order)?;
     let mut text = TextBytes::with_room(alloc, room)?;
-    push_beginning(&mut text, file, &locations);
+    push_beginning(&mut text, file, file.version, &locations);
     push_shapes(&mut text, file, order, &locations);
     text.finish()
-}
-
-/// The text by the written layout of the records that the root leads to. `room` is how many bytes are expected; the
-/// text may have fewer or more.
-pub(crate) fn copy_text(alloc: Global, file: &File, room: usize) -> Result<Vec<u8>, AllocError>
-    requires { IsSound file.now }
-    ensures { IfOk result (λ text. text.items ≡ text_of file.now (expansion_of file.now)) }
-{
-    records_are_trees();
-    equal_trees_tell();
-    let order = order_of(alloc, file)?;
-    text_in_order(alloc, file, &order, room)
 }
 
 /// The text of a compound without uses that is made as the root: the file's tables and datums stay. `room` is how many
@@ -145,9 +107,10 @@ pub(crate) fn made_text(alloc: Global, file: &File, room: usize) -> Result<Vec<u
     ensures { IfOk result (λ text. text.items ≡ text_of file.now made_root) }
 {
     texts_are_kept();
-    let locations = WrittenLocations::new(alloc, &file.locations)?;
+    let words = Words::new(alloc)?;
+    let locations = WrittenLocations::new(alloc, &file.locations, &words)?;
     let mut text = TextBytes::with_room(alloc, room)?;
-    push_beginning(&mut text, file, &locations);
+    push_beginning(&mut text, file, file.version, &locations);
     text.push(MADE_COMPOUND);
     text.finish()
 }

@@ -18,11 +18,11 @@ use Rattle.tshape_data.specs.declared.reps.PointRep.{PointRep}
 use Rattle.tshape_data.specs.declared.head.VertexData.{VertexData}
 use Rattle.tshape_data.specs.declared.head.EdgeData.{EdgeData}
 use Rattle.tshape_data.specs.declared.head.FaceData.{FaceData}
-use Rattle.tshape_data.specs.declared.head.Payload.TheVariants.{Vertex, Edge, Face}
+use Rattle.tshape_data.specs.declared.head.Payload.TheVariants.{Vertex, Edge, Face, Nothing}
 use Rattle.written_locations.specs.declared.written.WrittenLocations.{WrittenLocations}
 use Rattle.written_locations.specs.Added.{Adds}
 use Rattle.written_locations.specs.Laws.{AddedPartsJoin}
-use Rattle.written_heads.specs.Named.{edge_locations, point_locations}
+use Rattle.written_heads.specs.Named.{edge_locations, point_locations, LocationsStay}
 
 pub on_ok : {A E P Q : Type 0} (r : Result A E) → (P → Q) → OnOk r P → OnOk r Q
 on_ok (Ok x) f h = f h
@@ -119,3 +119,10 @@ in_edge version d =
 
 pub in_face : (version : ℕ) (d : FaceData) → data_locations version (Face d) ≡ d.location ∷ []
 in_face version d = after_tokens d.tolerance _ ∙ ap (λ l. d.location ∷ l) (in_mesh d.mesh)
+
+-- ---- the same in each version
+pub locations-stay : LocationsStay
+locations-stay version other (Vertex d) = in_vertex version d ∙ sym (in_vertex other d)
+locations-stay version other (Edge d) = in_edge version d ∙ sym (in_edge other d)
+locations-stay version other (Face d) = in_face version d ∙ sym (in_face other d)
+locations-stay version other Nothing = refl

@@ -1,5 +1,5 @@
 -- The locations that data name, in the order in which they stand.
-use Rattle.std.specs.Prelude.{◌≤◌, ℕ, List, All, length}
+use Rattle.std.specs.Prelude.{◌≡◌, ◌≤◌, ℕ, List, All, length}
 use Rattle.std.specs.List.{flat_map}
 use Rattle.tshape_data.specs.Columns.{edge_columns, point_columns}
 use Rattle.tshape_data.specs.Parts.{column_parts}
@@ -26,3 +26,7 @@ AreInSection s places = All (λ place. place ≤ length s.section.now) places
 -- The locations of the data are added, in the order of each version.
 abbrev pub AddsLocationsOf : Payload → WrittenLocations → WrittenLocations → Type 0
 AddsLocationsOf p old new = (version : ℕ) → Adds (data_locations version p) old new
+
+-- The data name the same locations in each version.
+abbrev pub LocationsStay : Type 0
+LocationsStay = (version other : ℕ) (p : Payload) → data_locations version p ≡ data_locations other p

@@ -17,7 +17,7 @@ use crate::points::push_points;
 use brep_tokens::Decimals;
 use byte_sink::{TakesBytes, push_byte, push_line};
 use orientation::kind_name;
-use tshape_data::{EdgeData, FaceData, Head, Payload, VertexData};
+use tshape_data::{EdgeData, FaceData, Flags, Head, Payload, VertexData};
 use written_locations::WrittenLocations;
 
 /// The lines of a vertex's tolerance and of its coordinates.
@@ -141,8 +141,27 @@ pub fn push_head<B: TakesBytes>(
     requires added { All (IsAdded locations.now) (data_locations version head.now.payload) }
     ensures { B.gives text.old (written_head locations.now version head.now) text.new }
 {
+    push_head_as(text, head, &head.flags, version, locations);
+}
+
+/// Hands in the same lines, but for the flags, which are these.
+pub fn push_head_as<B: TakesBytes>(
+    text: &mut B,
+    head: &Head,
+    flags: &Flags,
+    version: u8,
+    locations: &WrittenLocations<'_>,
+)
+    requires sound { CanBeWrittenIn version head.now }
+    requires numbering { IsNumbering locations.now }
+    requires within { AreInSection locations.now (data_locations version head.now.payload) }
+    requires added { All (IsAdded locations.now) (data_locations version head.now.payload) }
+    ensures { B.gives text.old
+        (written_head locations.now version (record head.now { flags = flags.now }))
+        text.new }
+{
     push_line(text, kind_name(head.kind));
     push_payload(text, &head.payload, version, locations);
     push_byte(text, b'\n');
-    push_line(text, &flag_digits(&head.flags));
+    push_line(text, &flag_digits(flags));
 }

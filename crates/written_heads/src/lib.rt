@@ -5,7 +5,8 @@ mod adding;
 mod edges;
 mod fields;
 mod heads;
+pub mod laws;
 mod points;
 
 pub use adding::add_head_locations;
-pub use heads::push_head;
+pub use heads::{push_head, push_head_as};

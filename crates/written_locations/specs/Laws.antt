@@ -1,5 +1,5 @@
 -- The laws of the words that are written.
-use Rattle.std.specs.Prelude.{◌≡◌, ◌≤◌, ◌+◌, suc, ℕ, List, ◌++◌, length, None, Contains}
+use Rattle.std.specs.Prelude.{◌≡◌, ◌≤◌, ◌+◌, ℕ, List, [], ◌++◌, length, None, Contains}
 use Rattle.std.specs.List.{AllByRecursion}
 use Rattle.lists.specs.Distinct.{IsDistinct}
 use Rattle.entry_readers.specs.Begins.{AreDecimals}
@@ -9,7 +9,7 @@ use Rattle.location_table.specs.Locations.{AreSoundLocations}
 use Rattle.location_table.specs.Words.{datums_of, words_of, word_of_place}
 use Rattle.location_table.specs.Written.{IsWordOver, written_section}
 use Rattle.written_locations.specs.declared.written.WrittenLocations.{WrittenLocations}
-use Rattle.written_locations.specs.Added.{Adds, IsNumbering, further_of}
+use Rattle.written_locations.specs.Added.{Adds, AddsAll, AddsWords, IsNumbering}
 use Rattle.written_locations.specs.Further.{fixed_number, further_words, number_of_word}
 
 -- A section has no more datums than entries; in a sound one they are decimals; and the word of each place is among its
@@ -47,9 +47,13 @@ pub record NumbersArePlaces : Type 0 where
       → (fixed_number w ≡ None → Contains further w)
       → word_of_place (written_section datums further) (number_of_word (length datums) further w) ≡ w
 
--- What is added in two parts is added as one list; and the further words are no more than the words of the section's
--- places.
+-- What is added in two parts is added as one list, and nothing is an empty list.
 pub record AddedPartsJoin : Type 0 where
+  pub none : (s : WrittenLocations) → IsNumbering s → AddsAll [] [] [] s s
+  pub all_joined : (ws vs : List (List Pair)) (places others ids more : List ℕ) (s t u : WrittenLocations)
+      → AddsAll ws places ids s t → AddsAll vs others more t u
+      → AddsAll (ws ++ vs) (places ++ others) (ids ++ more) s u
   pub joined : (first others : List ℕ) (s t u : WrittenLocations) → Adds first s t → Adds others t u
       → Adds (first ++ others) s u
-  pub few_further : (s : WrittenLocations) → IsNumbering s → length (further_of s) ≤ suc (length s.section.now)
+  pub words_joined : (first others : List ℕ) (s t u : WrittenLocations) → AddsWords first s t → AddsWords others t u
+      → AddsWords (first ++ others) s u

@@ -1,21 +1,24 @@
-//! Numbers for the words of the places that are added.
-ghost use Rattle.std.specs.Prelude.{◌≡◌, ◌<◌, ◌≤◌, ℕ, [], ◌∷◌, length, slice_get, Contains, IfOk, None, OnOk, Some};
-ghost use Rattle.location_table.specs.Words.{datums_of, word_of_place};
-ghost use Rattle.location_words.specs.Pairs.{IsHeldWord};
-ghost use Rattle.written_locations.specs.Further.{fixed_number, number_of_word, with_word};
-ghost use Rattle.written_locations.specs.Added.{further_of, number_at, word_at, Adds, AddsWord, HoldsWord, IsAdded};
-ghost use Rattle.written_locations.specs.Added.{IsNumbering};
+//! Numbers for the words that are added.
+ghost use Rattle.std.specs.Prelude.{◌≡◌, ◌<◌, ◌≤◌, ◌^◌, [], ◌∷◌, length, slice_get, IfOk, OnOk, Some};
+ghost use Rattle.written_locations.specs.Added.{further_of, location_number, number_at, word_number};
+ghost use Rattle.written_locations.specs.Added.{Adds, AddsWords, Enters, IsAdded, IsNumbering, IsWordAdded};
+ghost use Rattle.written_locations.specs.Further.{fixed_number};
 
 use location_table::Locations;
 use location_words::{Word, WordId, Words};
 use std::alloc::{AllocError, Global};
 
-/// The words of a section's places, as they are added one after another: each word that is neither the identity nor one
-/// datum gets the next number after the datums when it first occurs.
+/// The words of a section's places and those of a table, as they are added one after another: each word that is neither
+/// the identity nor one datum gets the next number after the datums when it first occurs.
 #[derive(Drop)]
 pub struct WrittenLocations<'a> {
     section: &'a Locations,
-    numbers: Vec<usize>,
+    table: &'a Words,
+    /// The number of each place's word, or 0 before it is added.
+    of_places: Vec<usize>,
+    /// The number of each word of the table, or 0 before it is added.
+    of_words: Vec<usize>,
+    /// The further words, behind the identity.
     words: Words,
 }
 
@@ -34,16 +37,23 @@ fn fixed_number(word: &Word) -> Option<u32>
 }
 
 impl<'a> WrittenLocations<'a> {
-    /// No place of the section has been added.
-    pub fn new(alloc: Global, section: &'a Locations) -> Result<WrittenLocations<'a>, AllocError>
+    /// No place of the section and no word of the table has been added.
+    pub fn new(
+        alloc: Global,
+        section: &'a Locations,
+        table: &'a Words,
+    ) -> Result<WrittenLocations<'a>, AllocError>
         ensures numbering { IfOk result IsNumbering }
         ensures section { IfOk result (λ s. s.section.now ≡ section.now) }
+        ensures table { IfOk result (λ s. s.table.now ≡ table.now) }
         ensures none { IfOk result (λ s. further_of s ≡ []) }
     {
         let places = section.len() as usize + 1;
         Ok(WrittenLocations {
             section,
-            numbers: vec![in alloc; 0; places]?,
+            table,
+            of_places: vec![in alloc; 0; places]?,
+            of_words: vec![in alloc; 0; table.len()]?,
             words: Words::new(alloc)?,
         })
     }
@@ -54,45 +64,41 @@ impl<'a> WrittenLocations<'a> {
         requires place { place ≤ length self.old.section.now }
         ensures { OnOk result (Adds (place ∷ []) self.old self.new) }
     {
-        self.note(place)?;
-        Ok(())
-    }
-
-    /// The number of the place's word is noted.
-    fn note(&mut self, place: u32) -> Result<(), AllocError>
-        requires numbering { IsNumbering self.old }
-        requires place { place ≤ length self.old.section.now }
-        ensures numbering { OnOk result (IsNumbering self.new) }
-        ensures section { OnOk result (self.new.section.now ≡ self.old.section.now) }
-        ensures words { OnOk result (AddsWord place self.old self.new) }
-        ensures added { OnOk result (IsAdded self.new place) }
-        ensures kept { OnOk result ((k : ℕ) → IsAdded self.old k → IsAdded self.new k) }
-    {
-        if self.numbers[place as usize] == 0 {
-            let number = self.number_for(place)?;
-            self.numbers[place as usize] = number;
+        if self.of_places[place as usize] == 0 {
+            let section = self.section;
+            let number = self.number_for(section.word(place))?;
+            self.of_places[place as usize] = number;
         }
         Ok(())
     }
 
-    /// The number of the word of a place, which is entered where it is a further word that hasn't occurred yet.
-    fn number_for(&mut self, place: u32) -> Result<usize, AllocError>
+    /// A word of the table is added: it gets a number, where it has none yet.
+    pub fn add_word(&mut self, id: WordId) -> Result<(), AllocError>
         requires numbering { IsNumbering self.old }
-        requires place { place ≤ length self.old.section.now }
-        ensures numbering { OnOk result (IsNumbering self.new) }
-        ensures section { OnOk result (self.new.section.now ≡ self.old.section.now) }
-        ensures numbers { OnOk result (self.new.numbers.items ≡ self.old.numbers.items) }
-        ensures words { OnOk result (AddsWord place self.old self.new) }
-        ensures number { IfOk result (λ n. n ≡ number_at self.new (word_at self.new place)) }
-        ensures held { OnOk result (HoldsWord self.new place) }
-        ensures kept { OnOk result ((k : ℕ) → IsAdded self.old k → IsAdded self.new k) }
+        requires id { id.0 < length self.old.table.now }
+        ensures { OnOk result (AddsWords (id.0 ∷ []) self.old self.new) }
     {
-        let word = self.section.word(place);
+        if self.of_words[id.0] == 0 {
+            let table = self.table;
+            let number = self.number_for(table.word(id))?;
+            self.of_words[id.0] = number;
+        }
+        Ok(())
+    }
+
+    /// The number of a word, which is entered where it is a further word that hasn't occurred yet.
+    fn number_for(&mut self, word: &Word) -> Result<usize, AllocError>
+        requires { IsNumbering self.old }
+        ensures enters { OnOk result (Enters word.now self.old self.new) }
+        ensures number { IfOk result (λ n. n ≡ number_at self.new word.now) }
+    {
         if let Some(number) = fixed_number(word) {
             return Ok(number as usize);
         }
         let copy = word.clone()?;
         let id = self.words.intern(copy)?;
+        // The table that holds the number is in memory, so it is far below the last one.
+        let _ = self.words.len();
         Ok(self.section.datums() as usize + id.0)
     }
 
@@ -101,15 +107,26 @@ impl<'a> WrittenLocations<'a> {
         requires numbering { IsNumbering self.now }
         requires place { place ≤ length self.now.section.now }
         requires added { IsAdded self.now place }
-        ensures { result ≡ number_at self.now (word_at self.now place) }
+        ensures { result ≡ location_number self.now place }
     {
-        self.numbers[place as usize]
+        self.of_places[place as usize]
+    }
+
+    /// The number of a word of the table that was added.
+    pub fn number_of(&self, id: WordId) -> usize
+        requires numbering { IsNumbering self.now }
+        requires id { id.0 < length self.now.table.now }
+        requires added { IsWordAdded self.now id.0 }
+        ensures { result ≡ word_number self.now id.0 }
+    {
+        self.of_words[id.0]
     }
 
     /// How many further words there are.
     pub fn len(&self) -> usize
         requires { IsNumbering self.now }
-        ensures { result ≡ length (further_of self.now) }
+        ensures len { result ≡ length (further_of self.now) }
+        ensures small { result < 2 ^ 57 }
     {
         self.words.len() - 1
     }
@@ -120,6 +137,8 @@ impl<'a> WrittenLocations<'a> {
         requires within { i < length (further_of self.now) }
         ensures { slice_get (further_of self.now) i ≡ Some result.now }
     {
+        // The table is in memory, so its numbers are far below the last one.
+        let _ = self.words.len();
         self.words.word(WordId(i + 1))
     }
 

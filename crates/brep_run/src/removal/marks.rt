@@ -1,7 +1,7 @@
 //! Marks: one for each record of a file, by its number.
 ghost use Rattle.brep_run.specs.Remaining.{AreMarks};
 ghost use Rattle.expansion_laws.specs.Expansion.{IsNumberOf};
-ghost use Rattle.std.specs.Prelude.{◌≡◌, All, IfOk, length};
+ghost use Rattle.std.specs.Prelude.{All, IfOk};
 
 use std::alloc::{AllocError, Global};
 

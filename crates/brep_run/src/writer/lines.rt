@@ -1,13 +1,8 @@
 //! The lines of a record, handed to what takes bytes.
 ghost use Rattle.brep_file.specs.declared.uses.FileUse.{FileUse};
 ghost use Rattle.brep_run.specs.Completion.{ArePlaced, IsDataWithin, new_number, text_of_record, text_of_uses};
-ghost use Rattle.brep_run.specs.Layout.{heading};
-ghost use Rattle.brep_file.specs.Spelling.{spell_use};
-ghost use Rattle.brep_tokens.specs.Written.{line_text};
 ghost use Rattle.expansion_laws.specs.Expansion.{IsNumberOf};
-ghost use Rattle.std.specs.Fmt.{decimal};
-ghost use Rattle.std.specs.List.{join_with_byte};
-ghost use Rattle.std.specs.Prelude.{◌∷◌, ◌++◌, ◌≤◌, All, [], length};
+ghost use Rattle.std.specs.Prelude.{◌≤◌, All, length};
 ghost use Rattle.tshape_data.specs.Locations.{data_locations};
 ghost use Rattle.tshape_data.specs.Sound.{IsSoundHead};
 ghost use Rattle.tshape_data.specs.declared.head_bounds.HeadBounds.{HeadBounds};
@@ -15,47 +10,11 @@ ghost use Rattle.written_locations.specs.Added.{IsAdded, IsNumbering, location_n
 
 use super::order::Order;
 use brep_file::{FileUse, Record};
-use byte_sink::{TakesBytes, push_byte};
-use itoa::Buffer;
-use orientation::{Turn, sign};
+use byte_sink::TakesBytes;
 use written_heads::push_head;
+use written_layout::laws::texts_have_parts;
+use written_layout::push_use;
 use written_locations::WrittenLocations;
-
-/// A number in decimal digits.
-pub(crate) fn push_number<B: TakesBytes>(text: &mut B, n: usize)
-    ensures { B.gives text.old (decimal n) text.new }
-{
-    let mut buffer = Buffer::new();
-    text.push(buffer.format(n).as_bytes());
-}
-
-/// A section's word and the count of its entries on a line.
-pub(crate) fn push_heading<B: TakesBytes>(text: &mut B, word: &[u8], count: usize)
-    ensures { B.gives text.old (line_text (heading word.now count)) text.new }
-{
-    text.push(word);
-    push_byte(text, b' ');
-    push_number(text, count);
-    push_byte(text, b'\n');
-}
-
-/// A use of the record with a number at a location with a number, and a byte after it.
-pub(crate) fn push_use<B: TakesBytes>(
-    text: &mut B,
-    turn: Turn,
-    number: usize,
-    location: usize,
-    end: u8,
-)
-    ensures { let used : FileUse = record { turn = turn; number = number; location = location } in
-        B.gives text.old (join_with_byte 32 (spell_use used) ++ end ∷ []) text.new }
-{
-    push_byte(text, sign(turn));
-    push_number(text, number);
-    push_byte(text, b' ');
-    push_number(text, location);
-    push_byte(text, end);
-}
 
 /// The uses of a record, each with a space after it.
 fn push_uses<B: TakesBytes>(
@@ -105,6 +64,7 @@ pub(crate) fn push_record<B: TakesBytes>(
         (text_of_record version order.now.numbers.items order.now.places.items (location_number locations.now)
         source.now) text.new }
 {
+    texts_have_parts();
     push_head(text, &source.head, version, locations);
     push_uses(text, source.uses.as_slice(), order, locations);
     text.push(b"*\n");

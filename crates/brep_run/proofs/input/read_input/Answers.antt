@@ -25,3 +25,10 @@ returns-in-Ok-clause-sound g c =
 
 pub returns-in-Ok-clause-small : goal.returns-in-Ok-clause-small
 returns-in-Ok-clause-small g c = (reads-of c.reading_is_exact.ensures _ _ c.in-Ok.ensures).small
+
+pub returns-in-Ok-clause-few : goal.returns-in-Ok-clause-few
+returns-in-Ok-clause-few g c = (
+  c.in_ok-bytes.bytes.items,
+  reads-of c.reading_is_exact.ensures _ _ c.in-Ok.ensures,
+  c.in_ok-bytes.ensures.whole.0,
+)

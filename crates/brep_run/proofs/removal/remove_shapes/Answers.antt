@@ -7,7 +7,6 @@ use Rattle.brep_run.specs.Remaining.{AreMarks, kept_records, RootGoes, RootStays
 use Rattle.brep_file.specs.Marks.{mark_of}
 use Rattle.brep_run.specs.Removal.{removal_step, RemovalDone}
 use Rattle.brep_run.proofs.Answered.{IfOk-weaker}
-use Rattle.brep_run.proofs.CopyLemmas.{file-sound}
 use Rattle.brep_run.proofs.RemovalTrees.{kept-file}
 use Rattle.brep_run.proofs.RemovalDone.{Laws, stays-done, goes-done}
 use Rattle.brep_run.proofs.removal.remove_shapes.Goals as goal
@@ -17,7 +16,7 @@ order_of-requires c = record {
   sound = c.requires.sound;
   trees =
       c.records_are_trees.ensures (plain_records c.args.file) (plain_root c.args.file)
-      (file-sound c.args.file c.requires.sound);
+      (c.sound_files_have_trees.ensures c.args.file c.requires.sound);
   test = c.equal_trees_tell.ensures;
 }
 
@@ -26,7 +25,7 @@ root_stays-requires-clause-tell c = record {
   sound = c.requires.sound;
   trees =
       c.records_are_trees.ensures (plain_records c.args.file) (plain_root c.args.file)
-      (file-sound c.args.file c.requires.sound);
+      (c.sound_files_have_trees.ensures c.args.file c.requires.sound);
   test = c.equal_trees_tell.ensures;
 }
 
@@ -41,11 +40,15 @@ returns-then-is_marked c =
     c.records_are_trees.ensures (kept_records f removed) (plain_root f) (kept-file f removed c.requires.sound) in
     let tell : NumbersTell f = record {
       sound = c.requires.sound;
-      trees = c.records_are_trees.ensures (plain_records f) (plain_root f) (file-sound f c.requires.sound);
+      trees =
+          c.records_are_trees.ensures (plain_records f) (plain_root f)
+          (c.sound_files_have_trees.ensures f c.requires.sound);
       test = c.equal_trees_tell.ensures;
     } in
     let laws : Laws = record {
-      trees = λ g sound. c.records_are_trees.ensures (plain_records g) (plain_root g) (file-sound g sound);
+      trees =
+          λ g sound. c.records_are_trees.ensures (plain_records g) (plain_root g)
+          (c.sound_files_have_trees.ensures g sound);
       written = c.roots_are_written.ensures;
       determined = λ h ns. c.results_are_determined.ensures (removal_step h ns);
       copies = c.texts_stand_for_roots.ensures.copies;
@@ -74,11 +77,15 @@ returns-else-is_marked c =
     c.records_are_trees.ensures (kept_records f removed) (plain_root f) (kept-file f removed c.requires.sound) in
     let tell : NumbersTell f = record {
       sound = c.requires.sound;
-      trees = c.records_are_trees.ensures (plain_records f) (plain_root f) (file-sound f c.requires.sound);
+      trees =
+          c.records_are_trees.ensures (plain_records f) (plain_root f)
+          (c.sound_files_have_trees.ensures f c.requires.sound);
       test = c.equal_trees_tell.ensures;
     } in
     let laws : Laws = record {
-      trees = λ g sound. c.records_are_trees.ensures (plain_records g) (plain_root g) (file-sound g sound);
+      trees =
+          λ g sound. c.records_are_trees.ensures (plain_records g) (plain_root g)
+          (c.sound_files_have_trees.ensures g sound);
       written = c.roots_are_written.ensures;
       determined = λ h ns. c.results_are_determined.ensures (removal_step h ns);
       copies = c.texts_stand_for_roots.ensures.copies;

@@ -4,7 +4,6 @@ use Rattle.brep_file.specs.PlainRecords.{plain_records, plain_root}
 use Rattle.brep_run.specs.Completion.{ArePlaced}
 use Rattle.brep_run.specs.Remaining.{kept_records, pair_of, passing, is_modified}
 use Rattle.brep_file.specs.Marks.{mark_of}
-use Rattle.brep_run.proofs.CopyLemmas.{file-sound}
 use Rattle.brep_run.proofs.RemovalTrees.{kept-file}
 use Rattle.brep_run.proofs.RemovalFile.{after-tells, gone-same, modified-same}
 use Rattle.brep_run.proofs.removal.root_stays.Goals as goal
@@ -16,7 +15,7 @@ order_of-requires c =
     after-tells f removed c.requires.tell (c.records_are_trees.ensures (kept_records f removed) (plain_root f)
     (kept-file f removed c.requires.tell.sound))
     c.in_ok-remaining.remaining.file c.in_ok-remaining.ensures.file
-    (λ h sound. c.records_are_trees.ensures (plain_records h) (plain_root h) (file-sound h sound))
+    (λ h sound. c.records_are_trees.ensures (plain_records h) (plain_root h) (c.sound_files_have_trees.ensures h sound))
 
 pub text_in_order-requires-clause-tell : goal.text_in_order-requires-clause-tell
 text_in_order-requires-clause-tell c =
@@ -25,7 +24,7 @@ text_in_order-requires-clause-tell c =
     after-tells f removed c.requires.tell (c.records_are_trees.ensures (kept_records f removed) (plain_root f)
     (kept-file f removed c.requires.tell.sound))
     c.in_ok-remaining.remaining.file c.in_ok-remaining.ensures.file
-    (λ h sound. c.records_are_trees.ensures (plain_records h) (plain_root h) (file-sound h sound))
+    (λ h sound. c.records_are_trees.ensures (plain_records h) (plain_root h) (c.sound_files_have_trees.ensures h sound))
 
 pub returns : goal.returns
 returns c =

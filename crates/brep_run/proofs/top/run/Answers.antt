@@ -6,8 +6,7 @@ use Rattle.brep_run.specs.Outcomes.{OnDone}
 use Rattle.brep_run.specs.Rewrite.{IsRewrittenRoot}
 use Rattle.brep_run.specs.Runs.{IsCopiedRoot, due_of}
 use Rattle.brep_run.proofs.Answered.{OnDone-weaker}
-use Rattle.brep_run.proofs.AnswerLaws.{copy-answers, if-told, rewrite-answers}
-use Rattle.brep_run.proofs.CopyLemmas.{file-sound}
+use Rattle.brep_run.proofs.AnswerLaws.{copy-answers, if-told, listing-answers, rewrite-answers}
 use Rattle.brep_run.proofs.CopyLaws.{copy-expands, expands-shares}
 use Rattle.brep_run.proofs.RewriteLaws.{rewrite-expands}
 use Rattle.brep_run.proofs.WordLaws.{written-apart}
@@ -27,7 +26,7 @@ returns-in-Copy-clause-shares g c =
     subst (λ l. OnDone c.copy.result (due_of g.D.Desk.tells (g.D.Desk.shows c.args.desk.now)
     (g.D.Desk.shows c.copy.new.desk) l).shares) (sym line)
     (OnDone-weaker _ _ (λ done. expands-shares
-    (λ f sound. c.records_are_trees.ensures (plain_records f) (plain_root f) (file-sound f sound))
+    (λ f sound. c.records_are_trees.ensures (plain_records f) (plain_root f) (c.sound_files_have_trees.ensures f sound))
     g.D.Desk.tells (g.D.Desk.shows c.copy.new.desk) c.in-Copy.target.now
     (IsCopiedRoot (g.D.Desk.shows c.args.desk.now) c.in-Copy.source.now)
     (copy-expands c.texts_stand_for_roots.ensures g.D.Desk.tells (g.D.Desk.shows c.args.desk.now)
@@ -44,6 +43,30 @@ returns-in-Copy-clause-due g c =
     (copy-answers _ _ c.reading_is_exact.ensures g.D.Desk.tells _ _ _ held c.in-Copy.target.now c.copy.result e.done
     e.usage e.not_built e.file e.script e.limit e.stopped e.counts))
 
+pub returns-in-Lists-clause-expands : goal.returns-in-Lists-clause-expands
+returns-in-Lists-clause-expands g c =
+    let line = ap command_line_of (sym c.as_slice.ensures) ∙ c.in-Lists.ensures in
+    subst (λ l. OnDone c.list.result (due_of g.D.Desk.tells (g.D.Desk.shows c.args.desk.now)
+    (g.D.Desk.shows c.list.new.desk) l).expands) (sym line)
+    (OnDone-weaker _ _ (λ done. tt) c.list.result c.list.ensures.done)
+
+pub returns-in-Lists-clause-shares : goal.returns-in-Lists-clause-shares
+returns-in-Lists-clause-shares g c =
+    let line = ap command_line_of (sym c.as_slice.ensures) ∙ c.in-Lists.ensures in
+    subst (λ l. OnDone c.list.result (due_of g.D.Desk.tells (g.D.Desk.shows c.args.desk.now)
+    (g.D.Desk.shows c.list.new.desk) l).shares) (sym line)
+    (OnDone-weaker _ _ (λ done. tt) c.list.result c.list.ensures.done)
+
+pub returns-in-Lists-clause-due : goal.returns-in-Lists-clause-due
+returns-in-Lists-clause-due g c =
+    let line = ap command_line_of (sym c.as_slice.ensures) ∙ c.in-Lists.ensures in
+    let e = c.list.ensures in
+    if-told _ _ g.D.Desk.tells.held _ c.list.result
+    (λ held. subst (λ l. Answers c.list.result (answer_for (g.D.Desk.shows c.args.desk.now) l)
+    (g.D.Desk.faults c.args.desk.now) (g.D.Desk.faults c.list.new.desk)) (sym line)
+    (listing-answers _ _ c.reading_is_exact.ensures g.D.Desk.tells _ _ _ held _ c.in-Lists.target.now c.list.result
+    e.done e.usage e.not_built e.file e.script e.limit e.stopped e.counts))
+
 pub returns-in-Rewrite-clause-expands : goal.returns-in-Rewrite-clause-expands
 returns-in-Rewrite-clause-expands g c =
     let line = ap command_line_of (sym c.as_slice.ensures) ∙ c.in-Rewrite.ensures in
@@ -58,7 +81,7 @@ returns-in-Rewrite-clause-shares g c =
     subst (λ l. OnDone c.rewrite.result (due_of g.D.Desk.tells (g.D.Desk.shows c.args.desk.now)
     (g.D.Desk.shows c.rewrite.new.desk) l).shares) (sym line)
     (OnDone-weaker _ _ (λ done. expands-shares
-    (λ f sound. c.records_are_trees.ensures (plain_records f) (plain_root f) (file-sound f sound))
+    (λ f sound. c.records_are_trees.ensures (plain_records f) (plain_root f) (c.sound_files_have_trees.ensures f sound))
     g.D.Desk.tells (g.D.Desk.shows c.rewrite.new.desk) c.in-Rewrite.target.now
     (IsRewrittenRoot (g.D.Desk.shows c.args.desk.now) c.in-Rewrite.source.now c.in-Rewrite.script.now)
     (rewrite-expands g.D.Desk.tells (g.D.Desk.shows c.args.desk.now) (g.D.Desk.shows c.rewrite.new.desk)

@@ -6,7 +6,7 @@ use Rattle.lists.proofs.Members.{Contains-here}
 use Rattle.brep_tokens.specs.Written.{line_text}
 use Rattle.brep_file.specs.declared.uses.FileUse.{FileUse}
 use Rattle.brep_file.specs.Spelling.{spell_use}
-use Rattle.brep_run.specs.Layout.{heading}
+use Rattle.written_layout.specs.Layout.{heading}
 use Rattle.written_locations.specs.Added.{location_number}
 use Rattle.byte_sink.proofs.Joining.{as_text, in_three}
 use Rattle.brep_run.specs.Completion.{locations_of_number, renumbered_use}

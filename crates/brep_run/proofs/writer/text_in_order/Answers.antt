@@ -16,3 +16,6 @@ returns c =
     (locations_are f c.requires.tell c.args.order.now.numbers.items c.args.order.now.places.items c.requires.placed
     c.requires.completed c.in_ok-locations.locations c.in_ok-locations.ensures)))
     c.finish.ensures
+
+pub push_beginning-requires-clause-version : goal.push_beginning-requires-clause-version
+push_beginning-requires-clause-version c = c.requires.tell.sound.version

@@ -22,5 +22,6 @@ returns g c =
     (ap (text_of_uses c.args.order.now.numbers.items c.args.order.now.places.items
     (location_number c.args.locations.now)) c.as_slice.ensures))
     c.push.ensures
-    (sym (record_text c.args.version c.args.order.now.numbers.items c.args.order.now.places.items
+    (sym (record_text c.texts_have_parts.ensures c.args.version c.args.order.now.numbers.items
+    c.args.order.now.places.items
     (location_number c.args.locations.now) c.args.source.now))

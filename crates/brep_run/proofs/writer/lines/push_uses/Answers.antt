@@ -5,7 +5,7 @@ use Rattle.brep_file.specs.declared.uses.FileUse.{FileUse}
 use Rattle.written_locations.specs.Added.{location_number}
 use Rattle.byte_sink.proofs.Joining.{as_text, each_all, each_more}
 use Rattle.brep_run.specs.Completion.{renumbered_use}
-use Rattle.brep_run.proofs.LineTexts.{spaced_use}
+use Rattle.written_layout.specs.Layout.{spaced_use}
 use Rattle.brep_run.proofs.Visits.{past_uses}
 use Rattle.brep_run.proofs.writer.lines.push_uses.Goals as goal
 

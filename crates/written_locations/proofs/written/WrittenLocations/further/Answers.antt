@@ -1,10 +1,11 @@
-use Rattle.std.proofs.Common.{arith}
-use Rattle.written_locations.proofs.Adding.{few-further}
+use Rattle.std.proofs.Common.{arith, ap}
+use Rattle.std.specs.Prelude.{length}
 use Rattle.written_locations.proofs.written.WrittenLocations.further.Goals as goal
 
 pub overflow_add-i : goal.overflow_add-i
 overflow_add-i c =
-    let count = few-further c.args.self.now c.requires.numbering in
-    let few = c.requires.numbering.few in
+    let size = ap length c.requires.numbering.words in
+    let long = c.len.ensures.len in
+    let small = c.len.ensures.small in
     let within = c.requires.within in
-    omega (arith, count, few, within)
+    omega (arith, size, long, small, within)

@@ -1,8 +1,0 @@
-use Rattle.std.proofs.Common.{rules}
-use Rattle.byte_sink.proofs.Joining.{as_text}
-use Rattle.brep_run.proofs.writer.lines.push_number.Goals as goal
-
-pub returns : goal.returns
-returns g c = as_text g.met.B.TakesBytes.joins _ _ _ _
-    c.push.ensures
-    (search rules)

@@ -1,8 +1,0 @@
-use Rattle.std.proofs.Common.{take}
-use Rattle.std.specs.List.{flat_map}
-use Rattle.brep_run.specs.Layout.{pair_text}
-use Rattle.brep_run.proofs.writer.locations.push_word.Given as goal
-
-abbrev pub invariant-loop-pair : goal.invariant-loop-pair
-invariant-loop-pair g l =
-    g.B.TakesBytes.gives l.initial.text (flat_map pair_text (take l.pair-index l.pairs)) l.text

@@ -1,0 +1,4 @@
+mod Spelled
+mod TableLines
+mod LocationLines
+mod Texts
