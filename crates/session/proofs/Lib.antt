@@ -1,0 +1,17 @@
+pub mod AskTurns
+pub mod AskedLaws
+pub mod EndLaws
+pub mod FirstLaws
+pub mod FirstPlaces
+pub mod FirstWords
+pub mod HeldTrees
+pub mod LastLaws
+pub mod SetLaws
+pub mod Staying
+pub mod StepAnswers
+pub mod StepFaults
+pub mod StepGiven
+pub mod StepLimits
+pub mod StepReads
+pub mod StepRows
+pub mod StepTurns

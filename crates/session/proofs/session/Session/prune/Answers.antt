@@ -1,0 +1,23 @@
+-- The prune mark is that of the next state.
+use Rattle.std.proofs.Common.{subst, true}
+use Rattle.script_text.specs.declared.command.Command.TheVariants.{Prune}
+use Rattle.session.specs.Commands.{GoesOn}
+use Rattle.session.specs.Views.{View}
+use Rattle.session.proofs.EndLaws.{a-session, session-on}
+use Rattle.session.proofs.SetLaws.{prune-on}
+use Rattle.session.proofs.session.Session.prune.Goals as goal
+
+pub invariant_of-self : goal.invariant_of-self
+invariant_of-self c =
+    let i = c.self.inside in
+    let v : View =
+    a-session i.file i.words i.pool i.first i.start i.versions.items i.asked.items i.rule i.output i.carried in
+    session-on v (record v { rule = record { stop = i.rule.stop; prune = true } }) Prune c.self.invariant (prune-on v)
+
+pub returns-clause-done : goal.returns-clause-done
+returns-clause-done c =
+    let i = c.self.inside in
+    let v : View =
+    a-session i.file i.words i.pool i.first i.start i.versions.items i.asked.items i.rule i.output i.carried in
+    subst (λ z. GoesOn z (record v { rule = record { stop = i.rule.stop; prune = true } }) Prune) c.self.view_is
+    (prune-on v)

@@ -1,0 +1,24 @@
+-- The stop kind is that of the next state.
+use Rattle.std.proofs.Common.{subst}
+use Rattle.script_text.specs.declared.command.Command.TheVariants.{Until}
+use Rattle.session.specs.Commands.{GoesOn}
+use Rattle.session.specs.Views.{View}
+use Rattle.session.proofs.EndLaws.{a-session, session-on}
+use Rattle.session.proofs.SetLaws.{stop-on}
+use Rattle.session.proofs.session.Session.stop_at.Goals as goal
+
+pub invariant_of-self : goal.invariant_of-self
+invariant_of-self c =
+    let i = c.self.inside in
+    let v : View =
+    a-session i.file i.words i.pool i.first i.start i.versions.items i.asked.items i.rule i.output i.carried in
+    session-on v (record v { rule = record { stop = c.args.kind; prune = i.rule.prune } }) (Until c.args.kind)
+    c.self.invariant (stop-on v c.args.kind)
+
+pub returns-clause-done : goal.returns-clause-done
+returns-clause-done c =
+    let i = c.self.inside in
+    let v : View =
+    a-session i.file i.words i.pool i.first i.start i.versions.items i.asked.items i.rule i.output i.carried in
+    subst (λ z. GoesOn z (record v { rule = record { stop = c.args.kind; prune = i.rule.prune } }) (Until c.args.kind))
+    c.self.view_is (stop-on v c.args.kind)
