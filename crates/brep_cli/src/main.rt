@@ -39,11 +39,11 @@ fn run_counted<D: Desk, L: Ledger>(
     run(alloc, words, desk, &mut steps)
 }
 
-/// Prints the message of an outcome that isn't `Done` on standard error; nothing, where there is no memory for it.
+/// Prints the message of an outcome on standard error, where it has one; nothing, where there is no memory for it.
 fn report(rt: &HostRuntime, outcome: &Outcome) {
-    if *outcome != Outcome::Done {
-        if let Ok(message) = outcome.message(rt.alloc()) {
-            let text = message.text();
+    if let Ok(message) = outcome.message(rt.alloc()) {
+        let text = message.text();
+        if !text.is_empty() {
             let _ = eprintln!(rt; "{text}");
         }
     }

@@ -1,11 +1,12 @@
 -- The count of calls of writing over one call after another.
-use Rattle.std.proofs.Common.{ℕ, subst, ◌∙◌}
+use Rattle.std.proofs.Common.{◌≤◌, ℕ, subst, ◌∙◌, arith}
 use Rattle.brep_desk.specs.Shown.{Shown, Tells}
 use Rattle.brep_desk.specs.Causes.{Rose}
 use Rattle.brep_desk.specs.WritingCalls.{KeepsWritingCalls, RoseWritingCalls}
-use Rattle.brep_run.specs.Outcomes.{OnWriting}
+use Rattle.brep_run.specs.Outcomes.{IfDeskFault, OnWriting}
+use Rattle.brep_run.specs.Copy.{Counts}
 use Rattle.brep_run.specs.declared.outcome.Outcome.{Outcome}
-use Rattle.brep_run.specs.declared.outcome.Outcome.TheVariants.{Done, Usage, NotBuilt, File, Script}
+use Rattle.brep_run.specs.declared.outcome.Outcome.TheVariants.{Done, Usage, NotBuilt, File, Script, Cycle}
 use Rattle.brep_run.specs.declared.outcome.Outcome.TheVariants.{Limit, ReadDesk, WriteDesk, NoMemory}
 
 pub kept-rose : (t : Tells) (x y z : Shown) → KeepsWritingCalls t x y → RoseWritingCalls t y z → RoseWritingCalls t x z
@@ -22,6 +23,7 @@ on-writing Usage P p = tt
 on-writing NotBuilt P p = tt
 on-writing (File fault) P p = tt
 on-writing (Script fault) P p = tt
+on-writing (Cycle walk) P p = tt
 on-writing (Limit which count) P p = tt
 on-writing (ReadDesk before after) P p = tt
 on-writing (WriteDesk before after file taken) P p = p
@@ -32,3 +34,21 @@ pub rose-after_reads : (t : Tells) (x y z w : Shown) (o : Outcome) → KeepsWrit
     → RoseWritingCalls t z w → OnWriting o (RoseWritingCalls t x w)
 rose-after_reads t x y z w o first second rose =
     on-writing o (RoseWritingCalls t x w) (kept-rose t x z w (kept-kept t x y z first second) rose)
+
+-- the counts of a fault after a call that raised none, or some
+pub counts-after : (m n x : ℕ) (o : Outcome) → m ≤ n → IfDeskFault o (Counts n x) → IfDeskFault o (Counts m x)
+counts-after m n x Done le h = tt
+counts-after m n x Usage le h = tt
+counts-after m n x NotBuilt le h = tt
+counts-after m n x (File fault) le h = tt
+counts-after m n x (Script fault) le h = tt
+counts-after m n x (Cycle walk) le h = tt
+counts-after m n x (Limit which count) le h = tt
+counts-after m n x (ReadDesk before after) le h =
+    record { from = (let low = h.from in omega (arith, le, low)); to = h.to; rose = h.rose }
+counts-after m n x (WriteDesk before after file taken) le h =
+    record { from = (let low = h.from in omega (arith, le, low)); to = h.to; rose = h.rose }
+counts-after m n x NoMemory le h = tt
+
+pub up-both : (a b d : ℕ) → a ≤ b → b ≤ d → a ≤ d
+up-both a b d first second = omega (arith, first, second)

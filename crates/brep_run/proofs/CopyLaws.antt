@@ -15,8 +15,8 @@ use Rattle.brep_file.specs.Reads.{Spells}
 use Rattle.brep_run.specs.Copy.{IsDue, OutWritten}
 use Rattle.brep_run.specs.Rewrite.{HoldsFile}
 use Rattle.brep_run.specs.Runs.{IsCopiedRoot, WrittenExpands, WrittenShares}
-use Rattle.brep_writer.specs.Copies.{TextsStandForRoots}
-use Rattle.brep_run.specs.Copies.{IsTextFor, SharesEqualTrees}
+use Rattle.brep_writer.specs.Copies.{IsTextFor, TextsStandForRoots}
+use Rattle.brep_run.specs.Copies.{SharesEqualTrees}
 
 some-same : {A : Type 0} (x y : A) → Some x ≡ Some y → x ≡ y
 some-same x y e = cc
@@ -28,12 +28,17 @@ module _ (stand : TextsStandForRoots) (t : Tells) (old new : Shown) (source targ
       let read = done.1 held in
       let f : File = read.1 in
       let same : done.0 ≡ text = some-same _ _ (sym ((done.2.written written).here) ∙ is) in
-      let whole : IsTextFor f (expansion_of f) done.0 =
-      subst (λ x. IsTextFor f (expansion_of f) x) (sym read.3.written)
+      let whole : IsTextFor f (expansion_of f) f.version done.0 =
+      subst (λ x. IsTextFor f (expansion_of f) f.version x) (sym read.3.written)
       (stand.texts f (expansion_of f) f.version read.3.reads.spells.sound (inl refl)
       (stand.copies f read.3.reads.spells.sound)) in
-      let file : HoldsFile old source f = record { bytes = read.0; holds = read.2; reads = read.3.reads } in
-      (f, expansion_of f, (file, refl), subst (λ x. IsTextFor f (expansion_of f) x) same whole)
+      let file : HoldsFile old source f = record { bytes = read.0; holds = read.2; reads = read.3.reads } in (
+        f,
+        expansion_of f,
+        f.version,
+        (file, refl, refl),
+        subst (λ x. IsTextFor f (expansion_of f) f.version x) same whole,
+      )
 
 -- two occurrences in a file whose records are trees apart
 module _ (g : File) (root : Use) (are : RecordsAreTrees (plain_records g))
@@ -51,9 +56,10 @@ module _ (g : File) (root : Use) (are : RecordsAreTrees (plain_records g))
       )
 
 module _ (are : (g : File) → IsSound g → RecordsAreTrees (plain_records g)) where
-  pub shared_in : (f : File) (root : Use) (g : File) (text : List ℕ) → IsTextFor f root text → Spells text g
+  pub shared_in : (f : File) (root : Use) (version : ℕ) (g : File) (text : List ℕ) → IsTextFor f root version text
+      → Spells text g
       → SharesEqualTrees root g
-  shared_in f root g text whole spells =
+  shared_in f root version g text whole spells =
       let first = whole.spelled in
       let shared : SharesEqualTrees root first.0 =
       equal_trees_share first.0 root (are first.0 first.1.sound)
@@ -63,8 +69,8 @@ module _ (are : (g : File) → IsSound g → RecordsAreTrees (plain_records g)) 
       subst (λ h. SharesEqualTrees root h) (whole.one first.0 g first.1 spells) shared
 
   -- where the written text stands for a root, what is equal in the root is shared in the file
-  pub expands-shares : (t : Tells) (new : Shown) (target : List ℕ) (IsRoot : File → Use → Type 0)
+  pub expands-shares : (t : Tells) (new : Shown) (target : List ℕ) (IsRoot : File → Use → ℕ → Type 0)
       → WrittenExpands t new target IsRoot → WrittenShares t new target IsRoot
   expands-shares t new target IsRoot expands text g held written is spells =
       let made = expands text held written is in
-      (made.0, made.1, made.2, shared_in made.0 made.1 g text made.3 spells)
+      (made.0, made.1, made.2, made.3, shared_in made.0 made.1 made.2 g text made.4 spells)

@@ -4,7 +4,7 @@ use Rattle.std.specs.Prelude.{ℕ, List}
 use Rattle.brep_desk.specs.Shown.{Shown, Tells}
 use Rattle.brep_run.specs.declared.outcome.Outcome.{Outcome}
 use Rattle.brep_run.specs.declared.outcome.Outcome.TheVariants as outcomes
-use Rattle.brep_run.specs.declared.outcome.LimitKind.TheVariants.{FileBytes, ScriptBytes}
+use Rattle.key_results.specs.declared.fault.LimitKind.TheVariants.{FileBytes, ScriptBytes}
 use Rattle.brep_run.specs.Copy.{most_bytes}
 use Rattle.brep_run.specs.Inputs.{IsBytesStop, IsInputStop, IsScriptLimit, IsScriptStop}
 use Rattle.brep_run.specs.Rewrite.{most_script_bytes}
@@ -20,6 +20,7 @@ module _ (t : Tells) (old : Shown) (name : List ℕ) (entry exit : ℕ) where
   input-stop outcomes.NotBuilt s = absurd s
   input-stop (outcomes.File fault) s = absurd s
   input-stop (outcomes.Script fault) s = absurd s
+  input-stop (outcomes.Cycle walk) s = absurd s
   input-stop (outcomes.WriteDesk before after file taken) s = absurd s
 
   pub script-stop : (o : Outcome) → IsBytesStop t old name ScriptBytes most_script_bytes entry exit o →
@@ -32,4 +33,5 @@ module _ (t : Tells) (old : Shown) (name : List ℕ) (entry exit : ℕ) where
   script-stop outcomes.NotBuilt s = absurd s
   script-stop (outcomes.File fault) s = absurd s
   script-stop (outcomes.Script fault) s = absurd s
+  script-stop (outcomes.Cycle walk) s = absurd s
   script-stop (outcomes.WriteDesk before after file taken) s = absurd s

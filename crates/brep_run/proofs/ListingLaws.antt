@@ -7,7 +7,7 @@ use Rattle.brep_file.specs.declared.file.File.{File}
 use Rattle.shape_listing.specs.declared.listing.Listing.{Listing}
 use Rattle.shape_listing.specs.Files.{listing_due, text_of_listing}
 use Rattle.brep_run.specs.declared.outcome.Outcome.{Outcome}
-use Rattle.brep_run.specs.declared.outcome.Outcome.TheVariants.{Done, Usage, NotBuilt, Script, Limit}
+use Rattle.brep_run.specs.declared.outcome.Outcome.TheVariants.{Done, Usage, NotBuilt, Script, Cycle, Limit}
 use Rattle.brep_run.specs.declared.outcome.Outcome.TheVariants.{ReadDesk, WriteDesk, NoMemory}
 use Rattle.brep_run.specs.declared.outcome.Outcome.TheVariants as outcomes
 use Rattle.brep_run.specs.Copy.{FirstStopped, OutWritten}
@@ -32,6 +32,7 @@ module _ (t : Tells) (a b d : Shown) (source text : List ℕ) (listing : Listing
   listed-after closed NotBuilt h = tt
   listed-after closed (outcomes.File fault) h = tt
   listed-after closed (Script fault) h = tt
+  listed-after closed (Cycle walk) h = tt
   listed-after closed (Limit which count) h = tt
   listed-after closed (ReadDesk before after) h = tt
   listed-after closed (WriteDesk before after file taken) h = tt
@@ -44,6 +45,7 @@ module _ (t : Tells) (a b d : Shown) (source text : List ℕ) (listing : Listing
   stopped-listing NotBuilt h = tt
   stopped-listing (outcomes.File fault) h = tt
   stopped-listing (Script fault) h = tt
+  stopped-listing (Cycle walk) h = tt
   stopped-listing (Limit which count) h = tt
   stopped-listing (ReadDesk before after) h = tt
   stopped-listing (WriteDesk before after file taken) h =

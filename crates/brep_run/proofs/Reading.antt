@@ -5,23 +5,26 @@ use Rattle.std.specs.Prelude.{Option, is_some}
 use Rattle.brep_desk.specs.Strays.{IsHeldIfTold, KeepsStrays}
 use Rattle.brep_desk.specs.Transfers.{NothingWritten, NoMoreOpen}
 use Rattle.brep_run.specs.declared.outcome.Outcome.{Outcome}
-use Rattle.brep_run.specs.declared.outcome.Outcome.TheVariants.{Done, Usage, NotBuilt, Script, Limit}
+use Rattle.brep_run.specs.declared.outcome.Outcome.TheVariants.{Done, Usage, NotBuilt, Script, Cycle, Limit}
 use Rattle.brep_run.specs.declared.outcome.Outcome.TheVariants.{ReadDesk, WriteDesk, NoMemory}
 use Rattle.brep_run.specs.declared.outcome.Outcome.TheVariants as outcomes
-use Rattle.expansion_laws.specs.Trees.{Use}
 use Rattle.brep_file.specs.declared.file.File.{File}
-use Rattle.brep_run.specs.declared.outcome.LimitKind.{LimitKind}
-use Rattle.brep_run.specs.declared.outcome.LimitKind.TheVariants.{FileBytes, ScriptBytes, ScriptLines}
-use Rattle.brep_run.specs.declared.outcome.LimitKind.TheVariants.{Keys, WordPairs, WordPower, Pairs}
-use Rattle.brep_run.specs.Outcomes.{OnDone, OnNotBuilt, IfLimit, IfScript, IfStopped}
+use Rattle.key_results.specs.declared.fault.LimitKind.{LimitKind}
+use Rattle.key_results.specs.declared.fault.LimitKind.TheVariants.{FileBytes, ScriptBytes, ScriptLines}
+use Rattle.key_results.specs.declared.fault.LimitKind.TheVariants.{Steps, Rank, Keys, WordPairs, WordPower}
+use Rattle.key_results.specs.declared.fault.LimitKind.TheVariants.{Uses, Depth, Nodes, Pairs}
+use Rattle.brep_run.specs.Outcomes.{OnDone, IfCycle, IfLimit, IfScript, IfStopped}
 use Rattle.brep_run.specs.Copy.{IsDue, OutWritten}
 use Rattle.brep_file.specs.PlainRecords.{expansion_of}
 use Rattle.brep_writer.specs.OwnVersion.{text_of}
-use Rattle.brep_run.specs.Inputs.{IsLinesStop, IsScriptLimit, IsScriptStop}
-use Rattle.brep_run.specs.Rewrite.{AreDue, AreTextsOf, BothWritten, HoldsFile, HoldsScript}
-use Rattle.brep_run.specs.Rewrite.{InputsAreHeld, IsRefusedLine, IsRewriteLimit, IsRewriteUnbuilt}
-use Rattle.brep_run.specs.Rewrite.{IsRewritten, IsOneStopped, IsRewriteStopped, given_for}
-use Rattle.brep_run.specs.Script.{removals}
+use Rattle.brep_run.specs.Inputs.{IsRunStop, IsScriptLimit, IsScriptStop}
+use Rattle.session.specs.declared.fault.SessionFault.{SessionFault}
+use Rattle.session.specs.declared.fault.SessionFault.TheVariants as faults
+use Rattle.session.specs.States.{State}
+use Rattle.script_runs.specs.Runs.{IsRun, IsRunRefused}
+use Rattle.brep_run.specs.Rewrite.{AreDue, AreTextsOf, HoldsFile, HoldsScript, InputsAreHeld}
+use Rattle.brep_run.specs.Rewrite.{IsCycleOfRun, IsReadLimit, IsRefusedLine, IsRefusedRun, IsRewriteLimit}
+use Rattle.brep_run.specs.Rewrite.{IsRewritten, IsRewriteStopped, StoppedFor, WrittenFor}
 use Rattle.brep_run.proofs.Stopping.{prefix_after}
 
 pub held-before : (t : Tells) (old new : Shown) (name bytes : List ℕ) → NothingWritten t old new
@@ -66,18 +69,32 @@ module _ (t : Tells) (a b d : Shown) (quiet : NothingWritten t a b) (closed : Is
   }
 
 module _ (t : Tells) (a b new : Shown) (quiet : NothingWritten t a b) (closed : IsTrue t.opened → NoMoreOpen a b)
-    (source script target text history told : List ℕ) (due : AreDue t a source script text told) where
-  both-after : BothWritten t b new target text history told → IsRewritten t a new source script target history
-  both-after both = (text, told, due, (both.0, out-after t a b both.0 quiet closed target text both.1, both.2))
+    (source script target history lines : List ℕ) (f : File) (end : State)
+    (file : IsTrue t.held → HoldsFile a source f) (held : IsTrue t.held → HoldsScript a script lines)
+    (run : IsRun f lines end) where
+  due-after : (text told : List ℕ) → AreTextsOf f end text told → AreDue t a source script text told
+  due-after text told texts = λ is.
+      (f, end, record { file = file is; lines = lines; held = held is; run = run }, texts)
 
-  one-after : (file taken : ℕ) → IsOneStopped t b new target text history told file taken
-      → IsRewriteStopped t a new source script target history file taken
-  one-after file taken one = (
+  both-after : WrittenFor t b new f end target history → IsRewritten t a new source script target history
+  both-after (text, told, texts, both) = (
     text,
     told,
-    due,
+    due-after text told texts,
+    (both.0, out-after t a b both.0 quiet closed target text both.1, both.2),
+  )
+
+  one-after : (out taken : ℕ) → StoppedFor t b new f end target history out taken
+      → IsRewriteStopped t a new source script target history out taken
+  one-after out taken (text, told, texts, one) = (
+    text,
+    told,
+    due-after text told texts,
     elim one [
-      | inl first ↦ inl (first.0, prefix_after t a b new source target text quiet taken first.1)
+      | inl first ↦ inl (
+        first.0,
+        (first.1.0, first.1.1, prefix_after t a b new source target text quiet first.1.0 first.1.2),
+      )
       | inr second ↦ inr (
         second.0,
         (second.1.0, out-after t a b second.1.0 quiet closed target text second.1.1, second.1.2),
@@ -85,26 +102,27 @@ module _ (t : Tells) (a b new : Shown) (quiet : NothingWritten t a b) (closed : 
     ],
   )
 
-  pub done-after : (o : Outcome) → OnDone o (BothWritten t b new target text history told)
+  pub done-after : (o : Outcome) → OnDone o (WrittenFor t b new f end target history)
       → OnDone o (IsRewritten t a new source script target history)
   done-after Done h = both-after h
   done-after Usage h = tt
   done-after NotBuilt h = tt
   done-after (outcomes.File fault) h = tt
   done-after (Script fault) h = tt
+  done-after (Cycle walk) h = tt
   done-after (Limit which count) h = tt
   done-after (ReadDesk before after) h = tt
   done-after (WriteDesk before after file taken) h = tt
   done-after NoMemory h = tt
 
-  pub stopped-after : (o : Outcome)
-      → IfStopped o (λ file taken. IsOneStopped t b new target text history told file taken) →
-      IfStopped o (λ file taken. IsRewriteStopped t a new source script target history file taken)
+  pub stopped-after : (o : Outcome) → IfStopped o (StoppedFor t b new f end target history)
+      → IfStopped o (IsRewriteStopped t a new source script target history)
   stopped-after Done h = tt
   stopped-after Usage h = tt
   stopped-after NotBuilt h = tt
   stopped-after (outcomes.File fault) h = tt
   stopped-after (Script fault) h = tt
+  stopped-after (Cycle walk) h = tt
   stopped-after (Limit which count) h = tt
   stopped-after (ReadDesk before after) h = tt
   stopped-after (WriteDesk before after file taken) h = one-after file taken h
@@ -114,7 +132,7 @@ module _ (t : Tells) (a b new : Shown) (quiet : NothingWritten t a b) (closed : 
 module _ (t : Tells) (a b : Shown) (quiet : NothingWritten t a b) (source script : List ℕ) (f : File)
     (file : IsTrue t.held → HoldsFile a source f) where
   limit-before : (which : LimitKind) (count : ℕ) → IsScriptLimit t b script which count
-      → IsRewriteLimit t a source script which count
+      → IsReadLimit t a source script which count
   limit-before FileBytes count h = absurd h
   limit-before ScriptBytes count h = (
     h.0,
@@ -135,9 +153,14 @@ module _ (t : Tells) (a b : Shown) (quiet : NothingWritten t a b) (source script
       },
     )),
   )
+  limit-before Steps count h = h
+  limit-before Rank count h = h
   limit-before Keys count h = h
   limit-before WordPairs count h = h
   limit-before WordPower count h = h
+  limit-before Uses count h = h
+  limit-before Depth count h = h
+  limit-before Nodes count h = h
   limit-before Pairs count h = h
 
   pub limited-before : (entry exit : ℕ) (o : Outcome) → IsScriptStop t b script entry exit o
@@ -147,64 +170,63 @@ module _ (t : Tells) (a b : Shown) (quiet : NothingWritten t a b) (source script
   limited-before entry exit NotBuilt h = tt
   limited-before entry exit (outcomes.File fault) h = tt
   limited-before entry exit (Script fault) h = tt
-  limited-before entry exit (Limit which count) h = limit-before which count h
+  limited-before entry exit (Cycle walk) h = tt
+  limited-before entry exit (Limit which count) h = inl (limit-before which count h)
   limited-before entry exit (ReadDesk before after) h = tt
   limited-before entry exit (WriteDesk before after file taken) h = tt
   limited-before entry exit NoMemory h = tt
 
-  module _ (lines : List ℕ) (held : IsTrue t.held → HoldsScript b script lines) where
-    script-before : IsTrue t.held → HoldsScript a script lines
-    script-before told =
-        (let is = held told in
-        record {
-          held = held-before t a b script lines quiet is.held;
-          few_bytes = is.few_bytes;
-          few_lines =
-              is.few_lines;
-        })
+pub script-before : (t : Tells) (a b : Shown) (script lines : List ℕ) → NothingWritten t a b
+    → (IsTrue t.held → HoldsScript b script lines) → IsTrue t.held → HoldsScript a script lines
+script-before t a b script lines quiet held told =
+    (let is = held told in
+    record {
+      held = held-before t a b script lines quiet is.held;
+      few_bytes = is.few_bytes;
+      few_lines = is.few_lines;
+    })
 
-    pub due-before : (numbers : List ℕ) (root : Use) (text told : List ℕ) → given_for f lines ≡ removals numbers
-        → AreTextsOf f numbers root text told → AreDue t a source script text told
-    due-before numbers root text told given texts =
-        λ is. (
-          f,
-          numbers,
-          root,
-          record { file = file is; lines = lines; held = script-before is; given = given },
-          texts,
-        )
+-- why a run is refused is what is due of the names
+module _ (t : Tells) (old : Shown) (source script lines : List ℕ) (f : File)
+    (file : IsTrue t.held → HoldsFile old source f) (held : IsTrue t.held → HoldsScript old script lines) where
+  refused-then : (fault : SessionFault) → IsRunRefused f lines fault → IsRefusedRun t old source script fault
+  refused-then fault h = λ told. (f, lines, file told, held told, h)
 
-    -- the same of the slices that the calls were given
-    pub due-made : (slice numbers picked text made told : List ℕ) (root : Use) → slice ≡ lines → picked ≡ numbers
-        → text ≡ made → given_for f slice ≡ removals numbers →
-        AreTextsOf f picked root made told → AreDue t a source script text told
-    due-made slice numbers picked text made told root same_lines same_numbers same_text given texts =
-        due-before numbers root text told (subst (λ ls. given_for f ls ≡ removals numbers) same_lines given)
-        (subst (λ x. AreTextsOf f numbers root x told) (sym same_text)
-        (subst (λ ns. AreTextsOf f ns root made told) same_numbers texts))
+  pub script-refused : (o : Outcome) → IsRunStop f lines o → IfScript o (IsRefusedLine t old source script)
+  script-refused Done h = tt
+  script-refused Usage h = tt
+  script-refused NotBuilt h = tt
+  script-refused (outcomes.File fault) h = tt
+  script-refused (Script fault) h = refused-then (faults.Script fault) h
+  script-refused (Cycle walk) h = tt
+  script-refused (Limit which count) h = tt
+  script-refused (ReadDesk before after) h = tt
+  script-refused (WriteDesk before after out taken) h = tt
+  script-refused NoMemory h = tt
 
-    pub unbuilt-before : (o : Outcome) → IsLinesStop f lines o → OnNotBuilt o (IsRewriteUnbuilt t a source script)
-    unbuilt-before Done h = tt
-    unbuilt-before Usage h = tt
-    unbuilt-before NotBuilt h = λ told. (f, lines, file told, script-before told, h)
-    unbuilt-before (outcomes.File fault) h = tt
-    unbuilt-before (Script fault) h = tt
-    unbuilt-before (Limit which count) h = tt
-    unbuilt-before (ReadDesk before after) h = tt
-    unbuilt-before (WriteDesk before after file taken) h = tt
-    unbuilt-before NoMemory h = tt
+  pub cycle-refused : (o : Outcome) → IsRunStop f lines o → IfCycle o (IsCycleOfRun t old source script)
+  cycle-refused Done h = tt
+  cycle-refused Usage h = tt
+  cycle-refused NotBuilt h = tt
+  cycle-refused (outcomes.File fault) h = tt
+  cycle-refused (Script fault) h = tt
+  cycle-refused (Cycle walk) h = refused-then (faults.Cycle walk) h
+  cycle-refused (Limit which count) h = tt
+  cycle-refused (ReadDesk before after) h = tt
+  cycle-refused (WriteDesk before after out taken) h = tt
+  cycle-refused NoMemory h = tt
 
-    pub refused-before : (o : Outcome) → IsLinesStop f lines o
-        → IfScript o (λ fault. IsRefusedLine t a source script fault)
-    refused-before Done h = tt
-    refused-before Usage h = tt
-    refused-before NotBuilt h = tt
-    refused-before (outcomes.File fault) h = tt
-    refused-before (Script fault) h = λ told. (f, lines, file told, script-before told, h)
-    refused-before (Limit which count) h = tt
-    refused-before (ReadDesk before after) h = tt
-    refused-before (WriteDesk before after file taken) h = tt
-    refused-before NoMemory h = tt
+  pub limit-refused : (o : Outcome) → IsRunStop f lines o → IfLimit o (IsRewriteLimit t old source script)
+  limit-refused Done h = tt
+  limit-refused Usage h = tt
+  limit-refused NotBuilt h = tt
+  limit-refused (outcomes.File fault) h = tt
+  limit-refused (Script fault) h = tt
+  limit-refused (Cycle walk) h = tt
+  limit-refused (Limit which count) h = inr (refused-then (faults.Limit which count) h)
+  limit-refused (ReadDesk before after) h = tt
+  limit-refused (WriteDesk before after out taken) h = tt
+  limit-refused NoMemory h = tt
 
 -- a file that was read, and the text of its copy
 pub due-copy : (t : Tells) (old : Shown) (source text : List ℕ) (f : File) → (IsTrue t.held → HoldsFile old source f)
@@ -221,6 +243,7 @@ module _ (t : Tells) (a b d : Shown) (quiet : NothingWritten t a b) (closed : Is
   copied-after NotBuilt h = tt
   copied-after (outcomes.File fault) h = tt
   copied-after (Script fault) h = tt
+  copied-after (Cycle walk) h = tt
   copied-after (Limit which count) h = tt
   copied-after (ReadDesk before after) h = tt
   copied-after (WriteDesk before after file taken) h = tt

@@ -99,7 +99,8 @@ module _ (s p t h : List ℕ) where
   pick true y word rest e = absurd (of-copy rest e)
   pick false true word rest e = of-rewrite rest e
   pick false false word rest e =
-      absurd (pick-other (is_word word (codes "list")) (is_word word (codes "walk")) (is_word word (codes "gen")) rest e)
+      absurd (pick-other (is_word word (codes "list")) (is_word word (codes "walk")) (is_word word (codes "gen")) rest
+      e)
 
   pub written-apart : (words : List (List ℕ)) → command_line_of words ≡ rewrites s p t h → t ≢ h
   unfolding command_line_of

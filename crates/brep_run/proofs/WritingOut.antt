@@ -8,7 +8,8 @@ use Rattle.brep_desk.specs.Shown.{writing, Shown, Tells, AreTold, ChangesOnly, S
 use Rattle.brep_desk.specs.Calls.{BeginsWriting, Ends, EndsName}
 use Rattle.brep_desk.specs.Transfers.{Appended, NoMoreOpen}
 use Rattle.byte_sink.specs.Sending.{counted_on}
-use Rattle.brep_run.specs.Copy.{OutWritten, PrefixWritten, StoppedAt}
+use Rattle.history_text.specs.Sending.{counted}
+use Rattle.brep_run.specs.Copy.{IsCountedPrefix, OutWritten, PrefixWritten, StoppedAt}
 
 module _ (t : Tells) (told : AreTold t) (a b d : Shown) (name : List ℕ) (c : ℕ) (text : List ℕ) (n : ℕ)
     (begins : BeginsWriting t a b name c) (app : Appended t b d c text n) where
@@ -71,9 +72,14 @@ module _ (t : Tells) (told : AreTold t) (a b d : Shown) (name : List ℕ) (c : �
     channels = closed_then e ends;
   }
 
--- a count of fewer than 2 ^ 64 is told as it is
-pub prefix_counted : (t : Tells) (a b : Shown) (name text : List ℕ) (count taken : ℕ) → count < 2 ^ 64
-    → taken ≡ counted_on 0 count → PrefixWritten t a b name text count → PrefixWritten t a b name text taken
-prefix_counted t a b name text count taken few told part =
-    let same : count ≡ taken = omega (arith, few, told) in
+-- a count is told up to the last number of 64 bits
+pub counted-told : (count taken : ℕ) → taken ≡ counted_on 0 count → taken ≡ counted count
+counted-told count taken told = omega (arith, told)
+
+-- of a text of fewer bytes than 2 ^ 64 each count is told as it is
+pub prefix_counted : (t : Tells) (a b : Shown) (name text : List ℕ) (taken : ℕ) → length text < 2 ^ 64
+    → IsCountedPrefix t a b name text taken → PrefixWritten t a b name text taken
+prefix_counted t a b name text taken few (count, told, part) =
+    let fits = part.fits in
+    let same : count ≡ taken = omega (arith, fits, few, told) in
     subst (λ n. PrefixWritten t a b name text n) same part

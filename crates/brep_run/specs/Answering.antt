@@ -8,23 +8,24 @@ use Rattle.brep_file.specs.declared.file.File.{File}
 use Rattle.brep_file.specs.FileReading.{read_text}
 use Rattle.brep_file.specs.Sound.{file_limits}
 use Rattle.script_text.specs.Lines.{script_line_count}
-use Rattle.script_text.specs.declared.command.LineFault.{LineFault}
-use Rattle.script_text.specs.declared.command.LineFault.TheVariants as line_faults
-use Rattle.brep_run.specs.declared.outcome.LimitKind.{LimitKind}
-use Rattle.brep_run.specs.declared.outcome.LimitKind.TheVariants.{FileBytes, ScriptBytes, ScriptLines}
+use Rattle.key_results.specs.declared.fault.LimitKind.{LimitKind}
+use Rattle.key_results.specs.declared.fault.LimitKind.TheVariants.{FileBytes, ScriptBytes, ScriptLines}
 use Rattle.brep_run.specs.declared.outcome.Outcome.{Outcome}
 use Rattle.brep_run.specs.declared.outcome.Outcome.TheVariants as outcomes
-use Rattle.brep_run.specs.declared.outcome.ScriptCode.TheVariants.{Syntax, NoSuchShape, NoSuchLocation}
 use Rattle.brep_run.specs.CommandLine.{CommandLine, copies, rewrites, lists, later, wrong, command_line_of}
 use Rattle.brep_run.specs.Copy.{most_bytes}
 use Rattle.brep_run.specs.Listings.{listing_outcome}
 use Rattle.brep_run.specs.Outcomes.{IsReadDeskOrNoMemory}
-use Rattle.brep_run.specs.Rewrite.{given_for, location_count, most_script_bytes, most_script_lines}
-use Rattle.brep_run.specs.Script.{ScriptGiven, removals, faulty, unbuilt}
+use Rattle.brep_run.specs.Rewrite.{most_script_bytes, most_script_lines}
+use Rattle.session.specs.declared.fault.SessionFault.TheVariants as faults
+use Rattle.session.specs.States.{State}
+use Rattle.script_runs.specs.Runs.{IsRun, IsRunRefused}
 
 pub data Answer : Type 0 where
   -- this outcome
   outcome : Outcome → Answer
+  -- what comes of these lines of a script, carried out on a file
+  by_run : File → List ℕ → Answer
   -- a fault of reading: a name that is to be read isn't held
   reading_fails : Answer
   -- the desk doesn't tell what its names hold
@@ -44,30 +45,13 @@ abbrev pub if_file : (File → Answer) → Option (List ℕ) → Answer
 if_file next None = reading_fails
 if_file next (Some bytes) = within FileBytes most_bytes (length bytes) (if_read next (read_text file_limits bytes))
 
--- ---- reading SCRIPT: its length, then its number of lines, then its first faulty line
-
-abbrev pub line_answer : ℕ → ℕ → ℕ → LineFault → Outcome
-line_answer shapes locations line line_faults.Syntax =
-    outcomes.Script (record { line = line; code = Syntax; first = 0; second = 0 })
-line_answer shapes locations line (line_faults.NoSuchShape n) =
-    outcomes.Script (record { line = line; code = NoSuchShape; first = n; second = shapes })
-line_answer shapes locations line (line_faults.NoSuchLocation n) =
-    outcomes.Script (record { line = line; code = NoSuchLocation; first = n; second = locations })
-line_answer shapes locations line line_faults.NoMemory = outcomes.NoMemory
-
-abbrev pub if_removals : ℕ → ℕ → ScriptGiven → Outcome
-if_removals shapes locations (removals numbers) = outcomes.Done
-if_removals shapes locations (faulty line fault) = line_answer shapes locations line fault
-if_removals shapes locations unbuilt = outcomes.NotBuilt
-
-abbrev pub lines_answer : File → List ℕ → Outcome
-lines_answer f lines = if_removals (length f.records) (location_count f) (given_for f lines)
+-- ---- reading SCRIPT: its length, then its number of lines, then what its lines say
 
 abbrev pub if_script : Option (List ℕ) → File → Answer
 if_script None f = reading_fails
 if_script (Some lines) f =
     within ScriptBytes most_script_bytes (length lines)
-    (within ScriptLines most_script_lines (script_line_count lines) (outcome (lines_answer f lines)))
+    (within ScriptLines most_script_lines (script_line_count lines) (by_run f lines))
 
 -- ---- each command
 
@@ -83,9 +67,20 @@ answer_for old wrong = outcome outcomes.Usage
 abbrev pub answer_to : Tells → Shown → List (List ℕ) → Answer
 answer_to t old words = if t.held then answer_for old (command_line_of words) else untold
 
+-- What the lines of a script may be answered with: Done where they are carried out, or why they aren't; or want of
+-- memory.
+abbrev pub IsRunAnswer : File → List ℕ → Outcome → Type 0
+IsRunAnswer f lines outcomes.Done = (end : State) × IsRun f lines end
+IsRunAnswer f lines (outcomes.Script fault) = IsRunRefused f lines (faults.Script fault)
+IsRunAnswer f lines (outcomes.Cycle walk) = IsRunRefused f lines (faults.Cycle walk)
+IsRunAnswer f lines (outcomes.Limit which count) = IsRunRefused f lines (faults.Limit which count)
+IsRunAnswer f lines outcomes.NoMemory = Unit {0}
+IsRunAnswer f lines _ = ⊥
+
 -- The answer comes or want of memory, where the count of faults didn't rise; where a name isn't held, in any case a
 -- fault of reading or want of memory.
 abbrev pub Answers : Outcome → Answer → ℕ → ℕ → Type 0
 Answers result (outcome due) entry exit = (Rose entry exit → ⊥) → (result ≡ due) ⊎ (result ≡ outcomes.NoMemory)
+Answers result (by_run f lines) entry exit = (Rose entry exit → ⊥) → IsRunAnswer f lines result
 Answers result reading_fails entry exit = IsReadDeskOrNoMemory result
 Answers result untold entry exit = Unit {0}

@@ -1,16 +1,11 @@
--- What the text written for a root says of it, in the file's own version.
-use Rattle.std.specs.Prelude.{◌≡◌, ◌↔◌, ℕ, List, Contains}
+-- What the text written for a root says of it.
+use Rattle.std.specs.Prelude.{◌≡◌, ◌↔◌, Contains}
 use Rattle.expansion_laws.specs.Trees.{Tree, Use, origin}
 use Rattle.expansion_laws.specs.Measures.{subtrees}
 use Rattle.expansion_laws.specs.Sharing.{with_origins}
 use Rattle.expansion_laws.specs.Written.{flat, origins_of}
 use Rattle.brep_file.specs.declared.file.File.{File}
 use Rattle.brep_file.specs.PlainRecords.{expansion_of}
-use Rattle.brep_writer.specs.Copies as copies
-
--- the text spells one file, and that file stands for the root
-abbrev pub IsTextFor : File → Use → List ℕ → Type 0
-IsTextFor f root text = copies.IsTextFor f root f.version text
 
 -- Two occurrences in the file `g` go through one record exactly where their trees, with the origins put back, are
 -- equal.

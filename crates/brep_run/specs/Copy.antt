@@ -3,14 +3,15 @@ use Rattle.std.specs.Prelude.{ℕ, ◌+◌, ◌≡◌, ◌⊎◌, ◌≤◌, IsT
 use Rattle.brep_desk.specs.Shown.{Shown, Tells, ChangesOnly}
 use Rattle.brep_desk.specs.Transfers.{NoMoreOpen, IsLonger}
 use Rattle.brep_desk.specs.Causes.{Rose}
+use Rattle.history_text.specs.Sending.{counted}
 use Rattle.brep_tokens.specs.declared.fault.ReadFault.{ReadFault}
 use Rattle.brep_file.specs.declared.file.File.{File}
 use Rattle.brep_file.specs.FileReading.{read_text}
 use Rattle.brep_file.specs.Sound.{file_limits}
 use Rattle.brep_file.specs.PlainRecords.{expansion_of}
 use Rattle.brep_file.specs.Reads.{Reads}
-use Rattle.brep_run.specs.declared.outcome.LimitKind.{LimitKind}
-use Rattle.brep_run.specs.declared.outcome.LimitKind.TheVariants.{FileBytes}
+use Rattle.key_results.specs.declared.fault.LimitKind.{LimitKind}
+use Rattle.key_results.specs.declared.fault.LimitKind.TheVariants.{FileBytes}
 use Rattle.brep_writer.specs.OwnVersion.{text_of}
 
 -- the greatest number of bytes of a file
@@ -44,6 +45,15 @@ pub record PrefixWritten (t : Tells) (old new : Shown) (target text : List ℕ) 
 -- the writing of the first output was stopped, after so many bytes of the text
 abbrev pub FirstStopped : Tells → Shown → Shown → List ℕ → List ℕ → ℕ → ℕ → Type 0
 FirstStopped t old new target text file taken = (file ≡ 1) × PrefixWritten t old new target text taken
+
+-- the first bytes of a text stand under the name, or what stood there before; their count is told up to the last u64
+abbrev pub IsCountedPrefix : Tells → Shown → Shown → List ℕ → List ℕ → ℕ → Type 0
+IsCountedPrefix t old new name text taken =
+    (count : ℕ) × (taken ≡ counted count) × PrefixWritten t old new name text count
+
+-- the writing of the first output was stopped, after so many bytes of the text, which are told up to the last u64
+abbrev pub FirstCounted : Tells → Shown → Shown → List ℕ → List ℕ → ℕ → ℕ → Type 0
+FirstCounted t old new target text file taken = (file ≡ 1) × IsCountedPrefix t old new target text taken
 
 -- the bytes are a file's, and the text is the written layout of the file's expansion
 pub record IsCopyOf (bytes text : List ℕ) (f : File) : Type 0 where

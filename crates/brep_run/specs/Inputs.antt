@@ -1,16 +1,16 @@
 -- What reading the inputs of a run gives, and why it stops, by the outcome that it is told as.
-use Rattle.std.specs.Prelude.{◌≡◌, ℕ, ◌+◌, IsTrue, List, length}
+use Rattle.std.specs.Prelude.{◌≡◌, ℕ, ◌+◌, IsTrue, List}
 use Rattle.brep_desk.specs.Shown.{Shown, Tells}
 use Rattle.brep_desk.specs.Transfers.{IsLonger}
 use Rattle.brep_file.specs.declared.file.File.{File}
+use Rattle.session.specs.declared.fault.SessionFault.TheVariants as faults
+use Rattle.script_runs.specs.Runs.{IsRunRefused}
 use Rattle.brep_run.specs.declared.outcome.Outcome.{Outcome}
 use Rattle.brep_run.specs.declared.outcome.Outcome.TheVariants as outcomes
-use Rattle.brep_run.specs.declared.outcome.LimitKind.{LimitKind}
-use Rattle.brep_run.specs.declared.outcome.LimitKind.TheVariants.{FileBytes, ScriptBytes, ScriptLines}
-use Rattle.brep_run.specs.declared.outcome.LimitKind.TheVariants.{Keys, WordPairs, WordPower, Pairs}
+use Rattle.key_results.specs.declared.fault.LimitKind.{LimitKind}
+use Rattle.key_results.specs.declared.fault.LimitKind.TheVariants.{ScriptBytes, ScriptLines}
 use Rattle.brep_run.specs.Copy.{Counts, HoldsFault, IsFileLimit}
-use Rattle.brep_run.specs.Rewrite.{HasMoreLines, given_for, location_count, most_script_bytes, most_script_lines}
-use Rattle.brep_run.specs.Script.{IsRefusedAt, unbuilt}
+use Rattle.brep_run.specs.Rewrite.{HasMoreLines, most_script_bytes, most_script_lines}
 
 -- why the bytes of a name are not read, given the limit on how many there may be
 abbrev pub IsBytesStop : Tells → Shown → List ℕ → LimitKind → ℕ → ℕ → ℕ → Outcome → Type 0
@@ -30,14 +30,10 @@ IsInputStop t old source entry exit _ = ⊥
 
 -- the script has too many bytes or lines
 abbrev pub IsScriptLimit : Tells → Shown → List ℕ → LimitKind → ℕ → Type 0
-IsScriptLimit t old script FileBytes count = ⊥
 IsScriptLimit t old script ScriptBytes count = (count ≡ most_script_bytes + 1) × IsLonger t old script most_script_bytes
 IsScriptLimit t old script ScriptLines count =
     (count ≡ most_script_lines + 1) × (IsTrue t.held → HasMoreLines old script)
-IsScriptLimit t old script Keys count = ⊥
-IsScriptLimit t old script WordPairs count = ⊥
-IsScriptLimit t old script WordPower count = ⊥
-IsScriptLimit t old script Pairs count = ⊥
+IsScriptLimit t old script _ count = ⊥
 
 -- why no script is read from the name
 abbrev pub IsScriptStop : Tells → Shown → List ℕ → ℕ → ℕ → Outcome → Type 0
@@ -46,10 +42,10 @@ IsScriptStop t old script entry exit (outcomes.Limit which count) = IsScriptLimi
 IsScriptStop t old script entry exit outcomes.NoMemory = Unit {0}
 IsScriptStop t old script entry exit _ = ⊥
 
--- why these lines remove nothing from the file
-abbrev pub IsLinesStop : File → List ℕ → Outcome → Type 0
-IsLinesStop f lines outcomes.NotBuilt = given_for f lines ≡ unbuilt
-IsLinesStop f lines (outcomes.Script fault) =
-    IsRefusedAt (length f.records) (location_count f) (given_for f lines) fault
-IsLinesStop f lines outcomes.NoMemory = Unit {0}
-IsLinesStop f lines _ = ⊥
+-- why the lines of a script aren't carried out on a file
+abbrev pub IsRunStop : File → List ℕ → Outcome → Type 0
+IsRunStop f lines (outcomes.Script fault) = IsRunRefused f lines (faults.Script fault)
+IsRunStop f lines (outcomes.Cycle walk) = IsRunRefused f lines (faults.Cycle walk)
+IsRunStop f lines (outcomes.Limit which count) = IsRunRefused f lines (faults.Limit which count)
+IsRunStop f lines outcomes.NoMemory = Unit {0}
+IsRunStop f lines _ = ⊥

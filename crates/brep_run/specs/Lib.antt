@@ -3,10 +3,6 @@ pub mod CommandLine
 pub mod Outcomes
 pub mod Messages
 pub mod Copy
-pub mod Script
-pub mod Completion
-pub mod Remaining
-pub mod Removal
 pub mod Rewrite
 pub mod Listings
 pub mod Inputs

@@ -8,8 +8,8 @@ use Rattle.shape_listing.specs.declared.listing.Listing.{Listing}
 use Rattle.shape_listing.specs.Files.{listing_due, text_of_listing}
 use Rattle.brep_run.specs.declared.outcome.Outcome.{Outcome}
 use Rattle.brep_run.specs.declared.outcome.Outcome.TheVariants as outcomes
-use Rattle.brep_run.specs.declared.outcome.LimitKind.{LimitKind}
-use Rattle.brep_run.specs.declared.outcome.LimitKind.TheVariants.{Keys, WordPairs, WordPower, Pairs}
+use Rattle.key_results.specs.declared.fault.LimitKind.{LimitKind}
+use Rattle.key_results.specs.declared.fault.LimitKind.TheVariants.{Keys, WordPairs, WordPower, Pairs}
 use Rattle.brep_run.specs.Copy.{IsFileLimit, OutWritten, PrefixWritten}
 use Rattle.brep_run.specs.Rewrite.{HoldsFile}
 

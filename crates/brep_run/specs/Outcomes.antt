@@ -1,10 +1,10 @@
 -- A fact for one outcome.
-use Rattle.std.specs.Prelude.{ℕ}
+use Rattle.std.specs.Prelude.{ℕ, List}
 use Rattle.brep_run.specs.declared.outcome.Outcome.{Outcome}
-use Rattle.brep_run.specs.declared.outcome.LimitKind.{LimitKind}
-use Rattle.brep_run.specs.declared.outcome.ScriptFault.{ScriptFault}
+use Rattle.key_results.specs.declared.fault.LimitKind.{LimitKind}
+use Rattle.script_requests.specs.declared.fault.ScriptFault.{ScriptFault}
 use Rattle.brep_tokens.specs.declared.fault.ReadFault.{ReadFault}
-use Rattle.brep_run.specs.declared.outcome.Outcome.TheVariants.{Done, Usage, NotBuilt, File, Script}
+use Rattle.brep_run.specs.declared.outcome.Outcome.TheVariants.{Done, Usage, NotBuilt, File, Script, Cycle}
 use Rattle.brep_run.specs.declared.outcome.Outcome.TheVariants.{Limit, ReadDesk, WriteDesk, NoMemory}
 
 abbrev pub OnDone : Outcome → Type 0 → Type 0
@@ -26,6 +26,11 @@ IfFile _ P = Unit {0}
 abbrev pub IfScript : Outcome → (ScriptFault → Type 0) → Type 0
 IfScript (Script fault) P = P fault
 IfScript _ P = Unit {0}
+
+-- of the origins on a cycle
+abbrev pub IfCycle : Outcome → (List ℕ → Type 0) → Type 0
+IfCycle (Cycle walk) P = P walk
+IfCycle _ P = Unit {0}
 
 abbrev pub IfLimit : Outcome → (LimitKind → ℕ → Type 0) → Type 0
 IfLimit (Limit which count) P = P which count

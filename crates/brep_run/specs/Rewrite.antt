@@ -5,21 +5,21 @@ use Rattle.brep_desk.specs.Strays.{IsHeldIfTold, KeepsStrays}
 use Rattle.brep_desk.specs.Transfers.{IsLonger}
 use Rattle.history_text.specs.declared.file.HistoryFile.{HistoryFile}
 use Rattle.history_text.specs.HistoryText as history_text
-use Rattle.history_text.specs.Sending.{counted}
 use Rattle.script_text.specs.Lines.{script_line_count}
 use Rattle.expansion_laws.specs.Trees.{Use}
-use Rattle.step_history.specs.History.{modified}
 use Rattle.brep_file.specs.declared.file.File.{File}
-use Rattle.brep_run.specs.declared.outcome.LimitKind.{LimitKind}
-use Rattle.brep_run.specs.declared.outcome.LimitKind.TheVariants.{FileBytes, ScriptBytes, ScriptLines}
-use Rattle.brep_run.specs.declared.outcome.LimitKind.TheVariants.{Keys, WordPairs, WordPower, Pairs}
-use Rattle.brep_run.specs.declared.outcome.ScriptFault.{ScriptFault}
+use Rattle.key_results.specs.declared.fault.LimitKind.{LimitKind}
+use Rattle.key_results.specs.declared.fault.LimitKind.TheVariants.{FileBytes, ScriptBytes, ScriptLines}
+use Rattle.script_requests.specs.declared.fault.ScriptFault.{ScriptFault}
 use Rattle.brep_file.specs.Reads.{Reads}
-use Rattle.brep_writer.specs.OwnVersion.{text_of}
-use Rattle.brep_run.specs.Copies.{IsTextFor}
-use Rattle.brep_run.specs.Copy.{Holds, OutWritten, PrefixWritten, FirstStopped, most_bytes}
-use Rattle.brep_run.specs.Removal.{IsRootAfter, history_after, origins_written, ArePairsOf, AreNumbersOf}
-use Rattle.brep_run.specs.Script.{ScriptGiven, IsRefusedAt, script_given, removals, unbuilt}
+use Rattle.brep_writer.specs.Copies.{IsTextFor}
+use Rattle.brep_writer.specs.WrittenFile.{text_of}
+use Rattle.session.specs.declared.fault.SessionFault.{SessionFault}
+use Rattle.session.specs.declared.fault.SessionFault.TheVariants as faults
+use Rattle.session.specs.States.{State, root_of}
+use Rattle.script_runs.specs.Runs.{IsRun, IsRunRefused, RisesInScript}
+use Rattle.written_history.specs.Numbered.{TellsSteps}
+use Rattle.brep_run.specs.Copy.{Holds, OutWritten, IsCountedPrefix, FirstCounted, most_bytes}
 
 -- the greatest numbers of bytes and of lines of a script
 abbrev pub most_script_bytes : ℕ
@@ -42,25 +42,17 @@ pub record HoldsScript (old : Shown) (script lines : List ℕ) : Type 0 where
   pub few_bytes : length lines ≤ most_script_bytes
   pub few_lines : script_line_count lines ≤ most_script_lines
 
--- how many locations a file has
-abbrev pub location_count : File → ℕ
-location_count f = length f.locations
-
--- what a script gives for a file
-abbrev pub given_for : File → List ℕ → ScriptGiven
-given_for f lines = script_given (length f.records) (location_count f) lines
-
--- the file is read, and the script removes shapes of it, with these numbers
-pub record IsAccepted (old : Shown) (source script : List ℕ) (f : File) (numbers : List ℕ) : Type 0 where
+-- the file is read, and the script is carried out on it: its commands lead to a state
+pub record IsAccepted (old : Shown) (source script : List ℕ) (f : File) (end : State) : Type 0 where
   pub file : HoldsFile old source f
   pub lines : List ℕ
   pub held : HoldsScript old script lines
-  pub given : given_for f lines ≡ removals numbers
+  pub run : IsRun f lines end
 
--- the root that the removals of an accepted script make of the file that is held
-abbrev pub IsRewrittenRoot : Shown → List ℕ → List ℕ → File → Use → Type 0
-IsRewrittenRoot old source script f root =
-    (numbers : List ℕ) × IsAccepted old source script f numbers × IsRootAfter f numbers root
+-- the root that an accepted script makes of the file that is held, and the version in which it is written
+abbrev pub IsRewrittenRoot : Shown → List ℕ → List ℕ → File → Use → ℕ → Type 0
+IsRewrittenRoot old source script f root version =
+    (end : State) × IsAccepted old source script f end × (root ≡ root_of f end) × (version ≡ end.output)
 
 -- Where that is told, the source is held; and where it holds a file that is read, the script is held too.
 pub record InputsAreHeld (t : Tells) (old : Shown) (source script : List ℕ) : Type 0 where
@@ -73,27 +65,17 @@ NoStrayOnInputs t old new source script = InputsAreHeld t old source script → 
 
 -- ---- what is written
 
--- the text is that of a history, whose pairs and numbers are those of the step's history, each list in ascending order
-pub record IsHistoryOf (f : File) (numbers : List ℕ) (root : Use) (h : HistoryFile) : Type 0 where
-  pub origins : h.origins ≡ origins_written root
-  pub modified_are : ArePairsOf f root (modified (history_after f numbers root)) h.modified
-  pub generated_are : ArePairsOf f root (history_after f numbers root).generated h.generated
-  pub removed_are : AreNumbersOf f (history_after f numbers root).removed h.removed
-  pub ascends : history_text.IsHistory h
-
--- The texts of a file from which the shapes with these numbers are removed, and of the history of that step: the first
--- is that of the root after the removals.
-pub record AreTextsOf (f : File) (numbers : List ℕ) (root : Use) (text told : List ℕ) : Type 0 where
-  pub root_after : IsRootAfter f numbers root
-  pub written : text ≡ text_of f root
-  pub stands : IsTextFor f root text
-  pub history : (h : HistoryFile) × (told ≡ history_text.text_of h) × IsHistoryOf f numbers root h
+-- The texts of a file after a script that led to a state, and of the history of its steps: the first is that of the
+-- root that the steps have left, in the version that the script has set.
+pub record AreTextsOf (f : File) (end : State) (text told : List ℕ) : Type 0 where
+  pub written : text ≡ text_of f (root_of f end) end.output
+  pub stands : IsTextFor f (root_of f end) end.output text
+  pub history : (h : HistoryFile) × (told ≡ history_text.text_of h) × TellsSteps f end.steps h
 
 -- the texts that are due for what the names hold
 abbrev pub AreDue : Tells → Shown → List ℕ → List ℕ → List ℕ → List ℕ → Type 0
 AreDue t old source script text told =
-    IsTrue t.held → (f : File) × (numbers : List ℕ) × (root : Use)
-    × IsAccepted old source script f numbers × AreTextsOf f numbers root text told
+    IsTrue t.held → (f : File) × (end : State) × IsAccepted old source script f end × AreTextsOf f end text told
 
 -- the one text and then the other stand whole under their names
 abbrev pub BothWritten : Tells → Shown → Shown → List ℕ → List ℕ → List ℕ → List ℕ → Type 0
@@ -105,12 +87,12 @@ IsRewritten t old new source script target history =
     (text : List ℕ) × (told : List ℕ) × AreDue t old source script text told
     × BothWritten t old new target text history told
 
--- ---- a fault of writing
+-- texts of a state's root and steps stand whole under their names
+abbrev pub WrittenFor : Tells → Shown → Shown → File → State → List ℕ → List ℕ → Type 0
+WrittenFor t old new f end target history =
+    (text : List ℕ) × (told : List ℕ) × AreTextsOf f end text told × BothWritten t old new target text history told
 
--- the first bytes of a text stand under the name, or what stood there before; their count is told up to the last u64
-abbrev pub IsCountedPrefix : Tells → Shown → Shown → List ℕ → List ℕ → ℕ → Type 0
-IsCountedPrefix t old new name text taken =
-    (count : ℕ) × (taken ≡ counted count) × PrefixWritten t old new name text count
+-- ---- a fault of writing
 
 -- the text of the history stands whole under the name
 abbrev pub HistoryWritten : Tells → Shown → Shown → List ℕ → HistoryFile → Type 0
@@ -124,7 +106,7 @@ HistoryStopped t old new name h file taken =
 -- at the first output, or at the second: then the first is whole
 abbrev pub IsOneStopped : Tells → Shown → Shown → List ℕ → List ℕ → List ℕ → List ℕ → ℕ → ℕ → Type 0
 IsOneStopped t old new target text history told file taken =
-    FirstStopped t old new target text file taken
+    FirstCounted t old new target text file taken
     ⊎ ((file ≡ 2)
     × ((between : Shown) × OutWritten t old between target text × IsCountedPrefix t between new history told taken))
 
@@ -133,19 +115,24 @@ IsRewriteStopped t old new source script target history file taken =
     (text : List ℕ) × (told : List ℕ) × AreDue t old source script text told
     × IsOneStopped t old new target text history told file taken
 
+abbrev pub StoppedFor : Tells → Shown → Shown → File → State → List ℕ → List ℕ → ℕ → ℕ → Type 0
+StoppedFor t old new f end target history file taken =
+    (text : List ℕ) × (told : List ℕ) × AreTextsOf f end text told
+    × IsOneStopped t old new target text history told file taken
+
 -- ---- refusals, where it is told what the names hold
 
--- no line of the script is faulty, and a command does something else than remove a shape
-abbrev pub IsRewriteUnbuilt : Tells → Shown → List ℕ → List ℕ → Type 0
-IsRewriteUnbuilt t old source script = IsTrue t.held →
-    (f : File) × (lines : List ℕ) × HoldsFile old source f × HoldsScript old script lines
-    × (given_for f lines ≡ unbuilt)
+-- The file and the script are read, and the script isn't carried out, for this: the first faulty line of it, or else
+-- what its first command that isn't accepted, or the end of its last step, is refused for.
+abbrev pub IsRefusedRun : Tells → Shown → List ℕ → List ℕ → SessionFault → Type 0
+IsRefusedRun t old source script fault = IsTrue t.held →
+    (f : File) × (lines : List ℕ) × HoldsFile old source f × HoldsScript old script lines × IsRunRefused f lines fault
 
--- a line of the script is faulty, and it is the first
 abbrev pub IsRefusedLine : Tells → Shown → List ℕ → List ℕ → ScriptFault → Type 0
-IsRefusedLine t old source script fault = IsTrue t.held →
-    (f : File) × (lines : List ℕ) × HoldsFile old source f × HoldsScript old script lines
-    × IsRefusedAt (length f.records) (location_count f) (given_for f lines) fault
+IsRefusedLine t old source script fault = IsRefusedRun t old source script (faults.Script fault)
+
+abbrev pub IsCycleOfRun : Tells → Shown → List ℕ → List ℕ → List ℕ → Type 0
+IsCycleOfRun t old source script walk = IsRefusedRun t old source script (faults.Cycle walk)
 
 -- the script has more lines than the limit
 pub record HasMoreLines (old : Shown) (script : List ℕ) : Type 0 where
@@ -155,14 +142,25 @@ pub record HasMoreLines (old : Shown) (script : List ℕ) : Type 0 where
   pub more : most_script_lines < script_line_count lines
 
 -- the file or the script is too long; where it is the script, the source holds a file
-abbrev pub IsRewriteLimit : Tells → Shown → List ℕ → List ℕ → LimitKind → ℕ → Type 0
-IsRewriteLimit t old source script FileBytes count = (count ≡ most_bytes + 1) × IsLonger t old source most_bytes
-IsRewriteLimit t old source script ScriptBytes count =
+abbrev pub IsReadLimit : Tells → Shown → List ℕ → List ℕ → LimitKind → ℕ → Type 0
+IsReadLimit t old source script FileBytes count = (count ≡ most_bytes + 1) × IsLonger t old source most_bytes
+IsReadLimit t old source script ScriptBytes count =
     (count ≡ most_script_bytes + 1) × IsLonger t old script most_script_bytes
     × (IsTrue t.held → (f : File) × HoldsFile old source f)
-IsRewriteLimit t old source script ScriptLines count =
+IsReadLimit t old source script ScriptLines count =
     (count ≡ most_script_lines + 1) × (IsTrue t.held → (f : File) × HoldsFile old source f × HasMoreLines old script)
-IsRewriteLimit t old source script Keys count = ⊥
-IsRewriteLimit t old source script WordPairs count = ⊥
-IsRewriteLimit t old source script WordPower count = ⊥
-IsRewriteLimit t old source script Pairs count = ⊥
+IsReadLimit t old source script _ count = ⊥
+
+-- or else a step of the script passes the limit
+abbrev pub IsRewriteLimit : Tells → Shown → List ℕ → List ℕ → LimitKind → ℕ → Type 0
+IsRewriteLimit t old source script which count =
+    IsReadLimit t old source script which count ⊎ IsRefusedRun t old source script (faults.Limit which count)
+
+-- ---- the count of steps
+
+-- It never falls, and it rises by no more than the keys of the steps that are tried of the script and the file that are
+-- held.
+pub record IsRewriteRise (t : Tells) (old : Shown) (source script : List ℕ) (before after : ℕ) : Type 0 where
+  pub rises : before ≤ after
+  pub keys : IsTrue t.held → (f : File) (lines : List ℕ) → HoldsFile old source f → HoldsScript old script lines
+      → RisesInScript f lines before after

@@ -7,15 +7,16 @@ use Rattle.expansion_laws.specs.Trees.{Use}
 use Rattle.brep_file.specs.declared.file.File.{File}
 use Rattle.brep_file.specs.PlainRecords.{expansion_of}
 use Rattle.brep_file.specs.Reads.{Spells}
-use Rattle.brep_run.specs.declared.outcome.LimitKind.{LimitKind}
-use Rattle.brep_run.specs.declared.outcome.ScriptFault.{ScriptFault}
+use Rattle.key_results.specs.declared.fault.LimitKind.{LimitKind}
+use Rattle.script_requests.specs.declared.fault.ScriptFault.{ScriptFault}
 use Rattle.shape_listing.specs.declared.listing.Listing.{Listing}
 use Rattle.brep_run.specs.CommandLine.{CommandLine, copies, rewrites, lists, later, wrong, command_line_of}
-use Rattle.brep_run.specs.Copies.{IsTextFor, SharesEqualTrees}
+use Rattle.brep_writer.specs.Copies.{IsTextFor}
+use Rattle.brep_run.specs.Copies.{SharesEqualTrees}
 use Rattle.brep_run.specs.Copy.{HoldsFault, IsCopied, IsCopyStopped, IsFileLimit}
 use Rattle.brep_run.specs.Listings.{IsListed, IsListingLimit, IsListingStopped}
 use Rattle.brep_run.specs.Rewrite.{HoldsFile, NoStrayOnInputs, IsRewritten, IsRewrittenRoot, IsRewriteStopped}
-use Rattle.brep_run.specs.Rewrite.{IsRewriteUnbuilt, IsRefusedLine, IsRewriteLimit}
+use Rattle.brep_run.specs.Rewrite.{IsCycleOfRun, IsRefusedLine, IsRewriteLimit, IsRewriteRise}
 
 pub record Due : Type 1 where
   -- the texts due stand whole under the names that are written
@@ -30,30 +31,34 @@ pub record Due : Type 1 where
   pub file : ReadFault → Type 0
   -- a line of the script is refused for this fault
   pub script : ScriptFault → Type 0
+  -- a step of the script is refused for the cycle of these origins
+  pub cycle : List ℕ → Type 0
   -- so many are over this limit
   pub limit : LimitKind → ℕ → Type 0
-  -- the command, or one of its script, isn't built
+  -- the command isn't built
   pub not_built : Type 0
   -- no stray call is made, where what is read is held
   pub no_strays : Type 0
+  -- the count of steps goes from one number to another
+  pub rises : ℕ → ℕ → Type 0
 
 -- ---- the root due
 
--- The text written under the name spells one file, which stands for a root that is due.
-abbrev pub WrittenExpands : Tells → Shown → List ℕ → (File → Use → Type 0) → Type 0
+-- The text written under the name spells one file, which stands for a root that is due, in the version that is due.
+abbrev pub WrittenExpands : Tells → Shown → List ℕ → (File → Use → ℕ → Type 0) → Type 0
 WrittenExpands t new target IsRoot =
     (text : List ℕ) → IsTrue t.held → IsTrue t.written → new.written target ≡ Some text →
-    (f : File) × (root : Use) × IsRoot f root × IsTextFor f root text
+    (f : File) × (root : Use) × (version : ℕ) × IsRoot f root version × IsTextFor f root version text
 
 -- In that file two occurrences go through one record exactly where their trees in the root are equal.
-abbrev pub WrittenShares : Tells → Shown → List ℕ → (File → Use → Type 0) → Type 0
+abbrev pub WrittenShares : Tells → Shown → List ℕ → (File → Use → ℕ → Type 0) → Type 0
 WrittenShares t new target IsRoot =
     (text : List ℕ) (g : File) → IsTrue t.held → IsTrue t.written → new.written target ≡ Some text → Spells text g →
-    (f : File) × (root : Use) × IsRoot f root × SharesEqualTrees root g
+    (f : File) × (root : Use) × (version : ℕ) × IsRoot f root version × SharesEqualTrees root g
 
--- the expansion of the file that is held
-abbrev pub IsCopiedRoot : Shown → List ℕ → File → Use → Type 0
-IsCopiedRoot old source f root = HoldsFile old source f × (root ≡ expansion_of f)
+-- the expansion of the file that is held, in the file's version
+abbrev pub IsCopiedRoot : Shown → List ℕ → File → Use → ℕ → Type 0
+IsCopiedRoot old source f root version = HoldsFile old source f × (root ≡ expansion_of f) × (version ≡ f.version)
 
 -- ---- each command
 
@@ -66,9 +71,11 @@ of_no_command t old new = record {
   stopped = λ file taken. ⊥;
   file = λ fault. ⊥;
   script = λ fault. ⊥;
+  cycle = λ walk. ⊥;
   limit = λ which count. ⊥;
   not_built = ⊥;
   no_strays = KeepsStrays t old new;
+  rises = λ before after. after ≡ before;
 }
 
 abbrev pub of_copy : Tells → Shown → Shown → List ℕ → List ℕ → Due
@@ -79,9 +86,11 @@ of_copy t old new source target = record {
   stopped = IsCopyStopped t old new source target;
   file = λ fault. IsTrue t.held → HoldsFault old source fault;
   script = λ fault. ⊥;
+  cycle = λ walk. ⊥;
   limit = IsFileLimit t old source;
   not_built = ⊥;
   no_strays = NoStrayOnHeld t old new source;
+  rises = λ before after. after ≡ before;
 }
 
 abbrev pub of_rewrite : Tells → Shown → Shown → List ℕ → List ℕ → List ℕ → List ℕ → Due
@@ -92,9 +101,11 @@ of_rewrite t old new source script target history = record {
   stopped = IsRewriteStopped t old new source script target history;
   file = λ fault. IsTrue t.held → HoldsFault old source fault;
   script = IsRefusedLine t old source script;
+  cycle = IsCycleOfRun t old source script;
   limit = IsRewriteLimit t old source script;
-  not_built = IsRewriteUnbuilt t old source script;
+  not_built = ⊥;
   no_strays = NoStrayOnInputs t old new source script;
+  rises = IsRewriteRise t old source script;
 }
 
 -- What is written is no file.
@@ -106,9 +117,11 @@ of_listing t old new source listing target = record {
   stopped = IsListingStopped t old new source listing target;
   file = λ fault. IsTrue t.held → HoldsFault old source fault;
   script = λ fault. ⊥;
+  cycle = λ walk. ⊥;
   limit = IsListingLimit t old source listing;
   not_built = ⊥;
   no_strays = NoStrayOnHeld t old new source;
+  rises = λ before after. after ≡ before;
 }
 
 abbrev pub due_of : Tells → Shown → Shown → CommandLine → Due

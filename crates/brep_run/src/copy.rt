@@ -1,21 +1,21 @@
 //! `copy`: reads a file, and writes it again by the written layout.
-ghost use Rattle.std.specs.Prelude.{◌≡◌, ◌^◌, ◌<◌, ◌≤◌, IfOk, IsTrue, OnErr, OnOk, length};
+ghost use Rattle.std.specs.Prelude.{◌≡◌, IfOk, IsTrue, OnErr, OnOk};
 ghost use Rattle.brep_desk.specs.Strays.{KeepsStrays, NoStrayOnHeld};
 ghost use Rattle.brep_desk.specs.Transfers.{NothingWritten};
 ghost use Rattle.brep_desk.specs.WritingCalls.{KeepsWritingCalls, RoseWritingCalls};
 ghost use Rattle.brep_file.specs.PlainRecords.{expansion_of};
 ghost use Rattle.brep_file.specs.Sound.{IsSound, IsWithinLimits};
 ghost use Rattle.brep_run.specs.Outcomes.{OnDone, OnUsage, OnNotBuilt, OnWriting, IfFile, IfLimit};
-ghost use Rattle.brep_run.specs.Outcomes.{IfScript, IfStopped, IfDeskFault, UnlessWriting};
+ghost use Rattle.brep_run.specs.Outcomes.{IfCycle, IfScript, IfStopped, IfDeskFault, UnlessWriting};
 ghost use Rattle.brep_run.specs.Copy.{Counts, HoldsFault, OutWritten, FirstStopped};
 ghost use Rattle.brep_run.specs.Copy.{IsCopied, IsCopyStopped, IsFileLimit};
 ghost use Rattle.brep_run.specs.Loaded.{IsLoadedCopy};
 ghost use Rattle.brep_writer.specs.OwnVersion.{text_of};
 ghost use Rattle.brep_writer.specs.Copies.{IsOfFewBytes};
-ghost use Rattle.brep_writer.specs.Plans.{plan_text, IsPlan};
 
 use crate::input::read_input;
 use crate::outcome::Outcome;
+use crate::output::write_plan;
 use brep_desk::Desk;
 use brep_file::File;
 use brep_writer::WritePlan;
@@ -43,54 +43,6 @@ fn loaded(alloc: Global, file: &File) -> Result<LoadedFile, AllocError>
     let mut words = Words::new(alloc)?;
     let root = load_file(alloc, file, &mut pool, &mut words)?;
     Ok(LoadedFile { pool, words, root })
-}
-
-/// Writes the text of a plan under the name, whole and ended.
-fn write_plan<D: Desk>(desk: &mut D, target: &str, plan: &WritePlan<'_>) -> Outcome
-    requires plan { IsPlan plan.now }
-    requires countable { length (plan_text plan.now) < 2 ^ 64 }
-    ensures later { D.faults desk.old ≤ D.faults desk.new }
-    ensures done { OnDone result (OutWritten D.tells (D.shows desk.old) (D.shows desk.new) target.now
-        (plan_text plan.now)) }
-    ensures stopped { IfStopped result (FirstStopped D.tells (D.shows desk.old) (D.shows desk.new)
-        target.now (plan_text plan.now)) }
-    ensures counts { IfDeskFault result (Counts (D.faults desk.old) (D.faults desk.new)) }
-    ensures either { UnlessWriting result ⊥ }
-    ensures strays { KeepsStrays D.tells (D.shows desk.old) (D.shows desk.new) }
-    ensures writing_calls { RoseWritingCalls D.tells (D.shows desk.old) (D.shows desk.new) }
-{
-    let before = desk.faults();
-    let c = match desk.begin_write(target) {
-        Ok(c) => c,
-        Err(_) => {
-            return Outcome::WriteDesk {
-                before,
-                after: desk.faults(),
-                file: 1,
-                taken: 0,
-            };
-        }
-    };
-    let taken = match plan.emit(desk, c) {
-        Ok(taken) => taken,
-        Err(stop) => {
-            return Outcome::WriteDesk {
-                before,
-                after: desk.faults(),
-                file: 1,
-                taken: stop.taken,
-            };
-        }
-    };
-    match desk.end(c) {
-        Ok(()) => Outcome::Done,
-        Err(_) => Outcome::WriteDesk {
-            before,
-            after: desk.faults(),
-            file: 1,
-            taken,
-        },
-    }
 }
 
 /// Writes the copy of a file under the name, whole and ended. Where memory is wanting, the desk isn't called.
@@ -137,17 +89,18 @@ pub(crate) fn copy<D: Desk>(alloc: Global, desk: &mut D, source: &str, target: &
     ensures file { IfFile result (λ fault. IsTrue D.tells.held → HoldsFault (D.shows desk.old) source.now fault) }
     ensures not_built { OnNotBuilt result ⊥ }
     ensures script { IfScript result (λ fault. ⊥) }
+    ensures cycle { IfCycle result (λ walk. ⊥) }
     ensures usage { OnUsage result ⊥ }
     ensures quiet { UnlessWriting result (NothingWritten D.tells (D.shows desk.old) (D.shows desk.new)) }
     ensures calls_kept { UnlessWriting result (KeepsWritingCalls D.tells (D.shows desk.old) (D.shows desk.new)) }
     ensures calls_rose { OnWriting result (RoseWritingCalls D.tells (D.shows desk.old) (D.shows desk.new)) }
     ensures strays { NoStrayOnHeld D.tells (D.shows desk.old) (D.shows desk.new) source.now }
 {
-    let input = match read_input(alloc, desk, source) {
-        Ok(input) => input,
+    let file = match read_input(alloc, desk, source) {
+        Ok(file) => file,
         Err(stop) => return stop,
     };
-    match write_copy(alloc, desk, &input.file, target) {
+    match write_copy(alloc, desk, &file, target) {
         Ok(outcome) => outcome,
         Err(_) => Outcome::NoMemory,
     }

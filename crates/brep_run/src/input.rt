@@ -1,22 +1,20 @@
 //! Reads the inputs of a run: a file, and the script that goes with it.
-ghost use Rattle.std.specs.Prelude.{◌≡◌, ◌≤◌, ◌<◌, ◌-◌, ◌^◌, All, IfErr, IfOk, IsTrue, OnOk, length};
+ghost use Rattle.std.specs.Prelude.{◌≡◌, ◌≤◌, ◌<◌, ◌-◌, ◌^◌, IfErr, IfOk, IsTrue, OnOk, length};
 ghost use Rattle.brep_desk.specs.Strays.{NoStrayOnHeld};
 ghost use Rattle.brep_desk.specs.Transfers.{IsAllHeld, NothingWritten, NoMoreOpen};
 ghost use Rattle.brep_desk.specs.WritingCalls.{KeepsWritingCalls};
 ghost use Rattle.brep_file.specs.Sound.{IsWithinLimits, IsSound};
 ghost use Rattle.brep_writer.specs.Copies.{IsOfFewBytes};
-ghost use Rattle.brep_run.specs.Inputs.{IsBytesStop, IsInputStop, IsLinesStop, IsScriptStop};
-ghost use Rattle.brep_run.specs.Rewrite.{HoldsFile, HoldsScript, given_for, most_script_lines};
-ghost use Rattle.brep_run.specs.Script.{removals};
-ghost use Rattle.expansion_laws.specs.Expansion.{IsNumberOf};
+ghost use Rattle.brep_run.specs.Inputs.{IsBytesStop, IsInputStop, IsScriptStop};
+ghost use Rattle.brep_run.specs.Rewrite.{HoldsFile, HoldsScript, most_script_lines};
 ghost use Rattle.script_text.specs.Lines.{script_lines};
 
-use crate::outcome::{LimitKind, Outcome};
-use crate::script::{ScriptStop, removed_numbers};
+use crate::outcome::Outcome;
 use brep_desk::{Desk, ReadAll, read_all};
 use brep_file::laws::reading_is_exact;
 use brep_file::{File, read_file};
 use brep_tokens::ReadStop;
+use key_results::LimitKind;
 use script_text::line_count;
 use std::alloc::Global;
 
@@ -28,13 +26,6 @@ const SCRIPT_BYTES: u64 = 4_194_304;
 
 /// The greatest number of lines of a script.
 const SCRIPT_LINES: u64 = 65_536;
-
-/// A file, and how many bytes it was read from.
-#[derive(Drop)]
-pub(crate) struct Input {
-    pub(crate) file: File,
-    pub(crate) size: usize,
-}
 
 /// Reads all bytes that the name holds, which may be so many.
 fn read_bytes<D: Desk>(
@@ -74,14 +65,14 @@ pub(crate) fn read_input<D: Desk>(
     alloc: Global,
     desk: &mut D,
     source: &str,
-) -> Result<Input, Outcome>
+) -> Result<File, Outcome>
     ensures later { D.faults desk.old ≤ D.faults desk.new }
     ensures quiet { NothingWritten D.tells (D.shows desk.old) (D.shows desk.new) }
     ensures writing_calls { KeepsWritingCalls D.tells (D.shows desk.old) (D.shows desk.new) }
-    ensures read { IfOk result (λ input. IsTrue D.tells.held → HoldsFile (D.shows desk.old) source.now input.file) }
-    ensures sound { IfOk result (λ input. IsSound input.file) }
-    ensures small { IfOk result (λ input. IsWithinLimits input.file) }
-    ensures few { IfOk result (λ input. IsOfFewBytes input.file) }
+    ensures read { IfOk result (λ file. IsTrue D.tells.held → HoldsFile (D.shows desk.old) source.now file) }
+    ensures sound { IfOk result (λ file. IsSound file) }
+    ensures small { IfOk result (λ file. IsWithinLimits file) }
+    ensures few { IfOk result (λ file. IsOfFewBytes file) }
     ensures stop { IfErr result (IsInputStop D.tells (D.shows desk.old) source.now
         (D.faults desk.old) (D.faults desk.new)) }
     ensures closes { OnOk result (IsTrue D.tells.opened → NoMoreOpen (D.shows desk.old) (D.shows desk.new)) }
@@ -89,9 +80,8 @@ pub(crate) fn read_input<D: Desk>(
 {
     reading_is_exact();
     let bytes = read_bytes(alloc, desk, source, LimitKind::FileBytes, FILE_BYTES)?;
-    let size = bytes.len();
     match read_file(alloc, bytes) {
-        Ok(file) => Ok(Input { file, size }),
+        Ok(file) => Ok(file),
         Err(ReadStop::Fault(fault)) => Err(Outcome::File(fault)),
         Err(ReadStop::NoMemory) => Err(Outcome::NoMemory),
     }
@@ -121,22 +111,4 @@ pub(crate) fn read_script<D: Desk>(
         });
     }
     Ok(lines)
-}
-
-/// The numbers of the records that a script removes from a file, in its order.
-pub(crate) fn removed_from(alloc: Global, lines: &[u8], file: &File) -> Result<Vec<u32>, Outcome>
-    requires small { IsWithinLimits file.now }
-    requires few { length (script_lines lines.now) ≤ most_script_lines }
-    ensures ok { IfOk result (λ numbers. given_for file.now lines.now ≡ removals numbers.items) }
-    ensures in_range { IfOk result (λ numbers. All (IsNumberOf (length file.now.records)) numbers.items) }
-    ensures stop { IfErr result (λ stop. IsLinesStop file.now lines.now stop) }
-{
-    let shapes = file.records.len();
-    let locations = file.locations.len();
-    match removed_numbers(alloc, lines, shapes as u32, locations) {
-        Ok(numbers) => Ok(numbers),
-        Err(ScriptStop::Refused(fault)) => Err(Outcome::Script(fault)),
-        Err(ScriptStop::NotBuilt) => Err(Outcome::NotBuilt),
-        Err(ScriptStop::NoMemory) => Err(Outcome::NoMemory),
-    }
 }

@@ -1,4 +1,4 @@
-//! The top call: reads a BREP file, and writes it by the written layout.
+//! The top call: reads a BREP file, and writes it, rewritten by a script, or listed.
 #![tactic(auto)]
 
 mod command_line;
@@ -8,11 +8,11 @@ mod listing;
 mod listing_words;
 mod outcome;
 mod output;
-mod removal;
 mod rewrite;
-mod script;
 mod top;
-mod writer;
 
-pub use outcome::{LimitKind, Message, Outcome, ScriptCode, ScriptFault};
+pub use key_results::LimitKind;
+pub use outcome::{Message, Outcome};
+pub use requests::Walk;
+pub use script_requests::{ScriptCode, ScriptFault};
 pub use top::run;

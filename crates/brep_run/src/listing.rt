@@ -6,12 +6,13 @@ ghost use Rattle.brep_desk.specs.WritingCalls.{KeepsWritingCalls, RoseWritingCal
 ghost use Rattle.brep_run.specs.Copy.{Counts, HoldsFault};
 ghost use Rattle.brep_run.specs.Listings.{IsListed, IsListingLimit, IsListingStopped};
 ghost use Rattle.brep_run.specs.Outcomes.{OnDone, OnUsage, OnNotBuilt, OnWriting, IfFile, IfLimit};
-ghost use Rattle.brep_run.specs.Outcomes.{IfScript, IfStopped, IfDeskFault, UnlessWriting};
+ghost use Rattle.brep_run.specs.Outcomes.{IfCycle, IfScript, IfStopped, IfDeskFault, UnlessWriting};
 
 use crate::input::read_input;
-use crate::outcome::{LimitKind, Outcome};
+use crate::outcome::Outcome;
 use crate::output::write_out;
 use brep_desk::Desk;
+use key_results::LimitKind;
 use shape_listing::{Listing, ListingFault, listing_text};
 use std::alloc::Global;
 
@@ -33,17 +34,18 @@ pub(crate) fn list<D: Desk>(
     ensures file { IfFile result (λ fault. IsTrue D.tells.held → HoldsFault (D.shows desk.old) source.now fault) }
     ensures not_built { OnNotBuilt result ⊥ }
     ensures script { IfScript result (λ fault. ⊥) }
+    ensures cycle { IfCycle result (λ walk. ⊥) }
     ensures usage { OnUsage result ⊥ }
     ensures quiet { UnlessWriting result (NothingWritten D.tells (D.shows desk.old) (D.shows desk.new)) }
     ensures calls_kept { UnlessWriting result (KeepsWritingCalls D.tells (D.shows desk.old) (D.shows desk.new)) }
     ensures calls_rose { OnWriting result (RoseWritingCalls D.tells (D.shows desk.old) (D.shows desk.new)) }
     ensures strays { NoStrayOnHeld D.tells (D.shows desk.old) (D.shows desk.new) source.now }
 {
-    let input = match read_input(alloc, desk, source) {
-        Ok(input) => input,
+    let file = match read_input(alloc, desk, source) {
+        Ok(file) => file,
         Err(stop) => return stop,
     };
-    match listing_text(alloc, &input.file, listing) {
+    match listing_text(alloc, &file, listing) {
         Ok(text) => write_out(desk, target, &text),
         Err(ListingFault::Keys(count)) => Outcome::Limit {
             which: LimitKind::Keys,

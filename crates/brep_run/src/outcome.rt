@@ -1,56 +1,27 @@
 //! What a run answers, with its exit status and its message.
-ghost use Rattle.std.specs.Prelude.{◌≡◌, IfOk, string_bytes};
+ghost use Rattle.std.specs.Prelude.{◌≡◌, ◌++◌, IfOk, OnOk, string_bytes};
 ghost use Rattle.brep_run.specs.Messages as messages;
-ghost use Rattle.brep_run.specs.Messages.{status_of, message_of};
+ghost use Rattle.brep_run.specs.Messages.{status_of, message_of, spaced_origin};
 
 use brep_tokens::{ReadCode, ReadFault};
+use key_results::LimitKind;
+use requests::Walk;
+use script_requests::{ScriptCode, ScriptFault};
 use std::alloc::{AllocError, Global};
 use std::marker::Model;
-
-/// A quantity with a limit: the number of bytes of the file that is read, and those of bytes and of lines of its
-/// script; of a listing the number of shapes that are met, those of pairs in an accumulated word, the size of a power in
-/// one, and the number of pairs of a shape and one above it.
-#[derive(Clone, Copy, Debug, PartialEq, Eq)]
-pub enum LimitKind {
-    FileBytes,
-    ScriptBytes,
-    ScriptLines,
-    Keys,
-    WordPairs,
-    WordPower,
-    Pairs,
-}
-
-/// Why a line of a script is refused. At `Syntax`, where it spells no command, `first` and `second` are 0. At
-/// `NoSuchShape` and `NoSuchLocation`, `first` is the number that it names, and `second` how many records or locations
-/// the file has.
-#[derive(Clone, Copy, Debug, PartialEq, Eq)]
-pub enum ScriptCode {
-    Syntax,
-    NoSuchShape,
-    NoSuchLocation,
-}
-
-/// A line of a script that is refused, by its number from 1 on.
-#[derive(Clone, Copy, Debug, PartialEq, Eq)]
-pub struct ScriptFault {
-    pub line: u64,
-    pub code: ScriptCode,
-    pub first: u64,
-    pub second: u64,
-}
 
 /// What a run answers. `File` tells the first token of the file that isn't accepted. The counts of a fault of the desk
 /// are those of the desk: at the last look before the calls that failed, and at the end. In `WriteDesk`, `file` is 1
 /// for the first output and 2 for the history, and `taken` is how many bytes of it the desk took, or the last u64 where
-/// they are more.
-#[derive(Clone, Copy, Debug, PartialEq, Eq)]
+/// they are more. `Cycle` tells the origins on the first cycle of a step's graph, the first of them again at its end.
+#[derive(Drop)]
 pub enum Outcome {
     Done,
     Usage,
     NotBuilt,
     File(ReadFault),
     Script(ScriptFault),
+    Cycle(Walk),
     Limit {
         which: LimitKind,
         count: u128,
@@ -128,9 +99,14 @@ fn limit_word(which: LimitKind) -> &'static str
         LimitKind::FileBytes => "file-bytes",
         LimitKind::ScriptBytes => "script-bytes",
         LimitKind::ScriptLines => "script-lines",
+        LimitKind::Steps => "steps",
+        LimitKind::Rank => "rank",
         LimitKind::Keys => "keys",
         LimitKind::WordPairs => "word-pairs",
         LimitKind::WordPower => "word-power",
+        LimitKind::Uses => "uses",
+        LimitKind::Depth => "depth",
+        LimitKind::Nodes => "nodes",
         LimitKind::Pairs => "pairs",
     }
 }
@@ -143,6 +119,10 @@ fn script_word(code: ScriptCode) -> &'static str
         ScriptCode::Syntax => "syntax",
         ScriptCode::NoSuchShape => "no-such-shape",
         ScriptCode::NoSuchLocation => "no-such-location",
+        ScriptCode::KindMismatch => "kind-mismatch",
+        ScriptCode::ManyImages => "many-images",
+        ScriptCode::EndsDiffer => "ends-differ",
+        ScriptCode::NothingToUndo => "nothing-to-undo",
     }
 }
 
@@ -179,6 +159,24 @@ fn script_fault_text(alloc: Global, fault: ScriptFault) -> Result<String, AllocE
     format!(in alloc; "script line {line} {word} {first} {second}")
 }
 
+/// Appends a space and an origin.
+fn push_origin(alloc: Global, text: &mut String, origin: u32) -> Result<(), AllocError>
+    ensures { OnOk result (string_bytes text.new ≡ string_bytes text.old ++ spaced_origin origin) }
+{
+    let word = format!(in alloc; " {origin}")?;
+    text.push_str(word.as_str())
+}
+
+fn cycle_text(alloc: Global, walk: &Walk) -> Result<String, AllocError>
+    ensures { IfOk result (λ s. string_bytes s ≡ message_of (Outcome.Cycle walk.now)) }
+{
+    let mut text = String::from_str(alloc, "cycle")?;
+    for origin in walk.as_slice() {
+        push_origin(alloc, &mut text, *origin)?;
+    }
+    Ok(text)
+}
+
 impl Outcome {
     /// The exit status of the program.
     pub fn status(&self) -> u8
@@ -189,6 +187,7 @@ impl Outcome {
             Outcome::Usage => 2,
             Outcome::File(_) => 3,
             Outcome::Script(_) => 4,
+            Outcome::Cycle(_) => 5,
             Outcome::Limit { .. } => 6,
             Outcome::ReadDesk { .. } => 7,
             Outcome::WriteDesk { .. } => 8,
@@ -205,6 +204,7 @@ impl Outcome {
             Outcome::Usage => String::from_str(alloc, USAGE),
             Outcome::File(fault) => file_text(alloc, *fault),
             Outcome::Script(fault) => script_fault_text(alloc, *fault),
+            Outcome::Cycle(walk) => cycle_text(alloc, walk),
             Outcome::Limit { which, count } => limit_text(alloc, *which, *count),
             Outcome::ReadDesk { before, after } => {
                 format!(in alloc; "read fault {before} {after}")

@@ -6,7 +6,7 @@ ghost use Rattle.brep_run.specs.Answering.{Answers, answer_to};
 ghost use Rattle.brep_run.specs.CommandLine.{HasInput, command_line_of, later, wrong};
 ghost use Rattle.brep_run.specs.Copy.{Counts};
 ghost use Rattle.brep_run.specs.Outcomes.{OnDone, OnUsage, OnNotBuilt, OnReadDesk, OnWriting, IfFile};
-ghost use Rattle.brep_run.specs.Outcomes.{IfLimit, IfScript, IfStopped, IfDeskFault, UnlessWriting};
+ghost use Rattle.brep_run.specs.Outcomes.{IfCycle, IfLimit, IfScript, IfStopped, IfDeskFault, UnlessWriting};
 ghost use Rattle.brep_run.specs.Runs.{due};
 
 use crate::command_line::{CommandLine, command_line};
@@ -23,12 +23,12 @@ use std::alloc::Global;
 use std::sync::ledger::Ledger;
 
 /// Does all that the program does, for the words after its name: `copy IN OUT` reads the file IN and writes it to OUT
-/// by the written layout; `rewrite IN SCRIPT OUT HIST` reads the file IN, removes the shapes that SCRIPT names, and
-/// writes what remains to OUT and the history of the removal to HIST; `list IN KIND OUT` and `walk IN KIND N OUT` read
-/// the file IN and write the shapes and the first N occurrences of a kind to OUT. Names are names of the desk; `-` may be
+/// by the written layout; `rewrite IN SCRIPT OUT HIST` reads the file IN, carries SCRIPT out on it, and writes the file
+/// that comes of it to OUT and the history of its steps to HIST; `list IN KIND OUT` and `walk IN KIND N OUT` read the
+/// file IN and write the shapes and the first N occurrences of a kind to OUT. Names are names of the desk; `-` may be
 /// read and written.
-/// The outcomes have these statuses: `Done` 0, `Usage` 2, `File` 3, `Script` 4, `Limit` 6, `ReadDesk` 7, `WriteDesk` 8,
-/// `NoMemory` 9, `NotBuilt` 10.
+/// The outcomes have these statuses: `Done` 0, `Usage` 2, `File` 3, `Script` 4, `Cycle` 5, `Limit` 6, `ReadDesk` 7,
+/// `WriteDesk` 8, `NoMemory` 9, `NotBuilt` 10.
 pub fn run<D: Desk, L: Ledger>(
     alloc: Global,
     words: &CommandWords,
@@ -54,6 +54,7 @@ pub fn run<D: Desk, L: Ledger>(
     ensures not_built { OnNotBuilt result (due D.tells (D.shows desk.old) (D.shows desk.new) words.now).not_built }
     ensures file { IfFile result (due D.tells (D.shows desk.old) (D.shows desk.new) words.now).file }
     ensures script { IfScript result (due D.tells (D.shows desk.old) (D.shows desk.new) words.now).script }
+    ensures cycle { IfCycle result (due D.tells (D.shows desk.old) (D.shows desk.new) words.now).cycle }
     ensures limit { IfLimit result (due D.tells (D.shows desk.old) (D.shows desk.new) words.now).limit }
     ensures stopped { IfStopped result (due D.tells (D.shows desk.old) (D.shows desk.new) words.now).stopped }
     ensures read { OnReadDesk result (HasInput (command_line_of words.now)) }
@@ -68,7 +69,8 @@ pub fn run<D: Desk, L: Ledger>(
     // It makes no stray call, where what it reads is held: of SCRIPT this is asked only where IN holds a file that is
     // read.
     ensures strays { (due D.tells (D.shows desk.old) (D.shows desk.new) words.now).no_strays }
-    ensures steps { steps.new ≡ steps.old }
+    // Only a rewriting counts steps: no more than the keys of the steps that its script tries.
+    ensures steps { (due D.tells (D.shows desk.old) (D.shows desk.new) words.now).rises steps.old steps.new }
 {
     reading_is_exact();
     texts_stand_for_roots();
@@ -88,6 +90,6 @@ pub fn run<D: Desk, L: Ledger>(
             script,
             target,
             history,
-        } => rewrite(alloc, desk, source, script, target, history),
+        } => rewrite(alloc, desk, source, script, target, history, steps),
     }
 }

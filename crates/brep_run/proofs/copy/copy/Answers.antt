@@ -7,7 +7,7 @@ pub returns-in-Ok-write_copy-clause-done : goal.returns-in-Ok-write_copy-clause-
 returns-in-Ok-write_copy-clause-done g c =
     copied-after g.D.Desk.tells (g.D.Desk.shows c.args.desk.now) _ _ c.in-Ok.ensures.quiet c.in-Ok.ensures.closes
     c.args.source.now c.args.target.now _
-    (due-copy g.D.Desk.tells (g.D.Desk.shows c.args.desk.now) c.args.source.now _ c.in-Ok.input.file
+    (due-copy g.D.Desk.tells (g.D.Desk.shows c.args.desk.now) c.args.source.now _ c.in-Ok.file
     c.in-Ok.ensures.read refl)
     c.in-Ok-write_copy.outcome c.in-Ok-write_copy.ensures.done
 
@@ -15,6 +15,6 @@ pub returns-in-Ok-write_copy-clause-stopped : goal.returns-in-Ok-write_copy-clau
 returns-in-Ok-write_copy-clause-stopped g c =
     stopped_after g.D.Desk.tells (g.D.Desk.shows c.args.desk.now) _ _ c.args.source.now c.args.target.now _
     c.in-Ok.ensures.quiet
-    (due-copy g.D.Desk.tells (g.D.Desk.shows c.args.desk.now) c.args.source.now _ c.in-Ok.input.file
+    (due-copy g.D.Desk.tells (g.D.Desk.shows c.args.desk.now) c.args.source.now _ c.in-Ok.file
     c.in-Ok.ensures.read refl)
     c.in-Ok-write_copy.outcome c.in-Ok-write_copy.ensures.stopped

@@ -41,7 +41,7 @@ returns-in-Copy-clause-due g c =
     (λ held. subst (λ l. Answers c.copy.result (answer_for (g.D.Desk.shows c.args.desk.now) l)
     (g.D.Desk.faults c.args.desk.now) (g.D.Desk.faults c.copy.new.desk)) (sym line)
     (copy-answers _ _ c.reading_is_exact.ensures g.D.Desk.tells _ _ _ held c.in-Copy.target.now c.copy.result e.done
-    e.usage e.not_built e.file e.script e.limit e.stopped e.counts))
+    e.usage e.not_built e.file e.script e.cycle e.limit e.stopped e.counts))
 
 pub returns-in-Lists-clause-expands : goal.returns-in-Lists-clause-expands
 returns-in-Lists-clause-expands g c =
@@ -65,7 +65,7 @@ returns-in-Lists-clause-due g c =
     (λ held. subst (λ l. Answers c.list.result (answer_for (g.D.Desk.shows c.args.desk.now) l)
     (g.D.Desk.faults c.args.desk.now) (g.D.Desk.faults c.list.new.desk)) (sym line)
     (listing-answers _ _ c.reading_is_exact.ensures g.D.Desk.tells _ _ _ held _ c.in-Lists.target.now c.list.result
-    e.done e.usage e.not_built e.file e.script e.limit e.stopped e.counts))
+    e.done e.usage e.not_built e.file e.script e.cycle e.limit e.stopped e.counts))
 
 pub returns-in-Rewrite-clause-expands : goal.returns-in-Rewrite-clause-expands
 returns-in-Rewrite-clause-expands g c =
@@ -96,4 +96,10 @@ returns-in-Rewrite-clause-due g c =
     (λ held. subst (λ l. Answers c.rewrite.result (answer_for (g.D.Desk.shows c.args.desk.now) l)
     (g.D.Desk.faults c.args.desk.now) (g.D.Desk.faults c.rewrite.new.desk)) (sym line)
     (rewrite-answers _ _ c.reading_is_exact.ensures g.D.Desk.tells _ _ _ held _ _ _ c.rewrite.result e.done e.usage
-    e.not_built e.file e.script e.limit e.stopped e.counts))
+    e.not_built e.file e.script e.cycle e.limit e.stopped e.counts))
+
+pub returns-in-Rewrite-clause-steps : goal.returns-in-Rewrite-clause-steps
+returns-in-Rewrite-clause-steps g c =
+    let line = ap command_line_of (sym c.as_slice.ensures) ∙ c.in-Rewrite.ensures in
+    subst (λ l. (due_of g.D.Desk.tells (g.D.Desk.shows c.args.desk.now) (g.D.Desk.shows c.rewrite.new.desk) l).rises
+    c.args.steps.now c.rewrite.new.steps) (sym line) c.rewrite.ensures.steps
