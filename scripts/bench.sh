@@ -1,7 +1,8 @@
 #!/usr/bin/env bash
 # Times the copy of large files beside plain tools, in one run: a model of 56,000 cylinders, and a million vertices in one compound, about
 # 60 MB each. Then it times the copy of a mesh of nine million tokens, and a rewrite that removes 10,000 shapes of a file of 200,000 records
-# beside the copy of that file. By hand, not in the gate. usage: scripts/bench.sh [VERTICES] [CYLINDERS]
+# beside the copy of that file; at last further rewrites (scripts/bench_rewrite.sh). By hand, not in the gate.
+# usage: scripts/bench.sh [VERTICES] [CYLINDERS]
 set -euo pipefail
 here=$(cd "$(dirname "$0")/.." && pwd)
 vertices=${1:-1000000}
@@ -129,3 +130,6 @@ echo
 printf '%-22s %12s\n' 'records' 200000 'removes' "$(wc -l <"$work/script.txt")"
 printf '%-22s %12s s wall, %s s of processor\n' 'brep copy' "$copy_wall" "$copy_cpu" 'brep rewrite' "$rewrite_wall" "$rewrite_cpu"
 awk -v rewrite="$rewrite_wall" -v copy="$copy_wall" 'BEGIN { printf "%-22s %12.2f\n", "rewrite / copy", rewrite / (copy > 0 ? copy : 0.01) }'
+
+echo
+"$here/scripts/bench_rewrite.sh"

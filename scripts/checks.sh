@@ -40,6 +40,9 @@ fi
 program=$PWD/crates/brep_cli/out/brep_cli
 if [ -x "$program" ]; then
     bash scripts/program.sh "$program" || fail 'the built program went wrong'
+    if command -v python3 >/dev/null; then
+        python3 scripts/recipes "$program" || fail 'a recipe went wrong'
+    fi
     archive=$(mktemp -d)
     bash scripts/release "$archive" >"$archive/said" || fail 'the archive went wrong'
     rm -rf "$archive"
