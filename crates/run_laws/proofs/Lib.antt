@@ -1,0 +1,14 @@
+pub mod StepsAlike
+pub mod VisitsAlike
+pub mod LimitsAlike
+pub mod NamesAlike
+pub mod AskedAlike
+pub mod StatesAlike
+pub mod RefusedAlike
+pub mod HistoriesAlike
+pub mod OneAmiss
+pub mod SortedLists
+pub mod HistoryFiles
+pub mod RunsAlike
+pub mod OneFault
+pub mod ScriptsAlike
