@@ -1,9 +1,9 @@
 //! What is answered to each call of a desk in memory.
 ghost use Rattle.std.specs.Prelude.{◌<◌};
 
-use crate::reading::{Missed, counted, cut, number, said, small, yes};
 use brep_desk::{Chan, Desk, Failed, MemoryDesk, ReadAll, read_all, write_all};
 use std::alloc::Global;
+use tree_texts::{Missed, counted, cut, number, said, small, yes};
 
 /// A channel of a number.
 fn chan(text: &str) -> Result<Chan, Missed> {

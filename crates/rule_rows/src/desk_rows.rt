@@ -2,9 +2,9 @@
 ghost use Rattle.std.specs.Prelude.{◌<◌};
 
 use crate::desk_answers::changed;
-use crate::reading::{Missed, counted, cut, cut_if, join, number, said, small, yes};
 use brep_desk::{Bytes, CommandWords, MemoryDesk, NameText};
 use std::alloc::Global;
+use tree_texts::{Missed, counted, cut, cut_if, join, number, said, small, yes};
 
 /// A name of a text.
 fn name(alloc: Global, text: &str) -> Result<NameText, Missed> {

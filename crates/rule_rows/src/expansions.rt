@@ -1,16 +1,11 @@
 //! Rows of records: the tree of a record of a file, whose last record has the number 1.
-ghost use Rattle.std.specs.Prelude.{◌≡◌, ◌<◌, ◌≤◌, All, IsTrue, length, reverse};
-ghost use Rattle.expansion_laws.specs.Expansion.{IsNumberOf, NamesAbove};
-ghost use Rattle.expansion_laws.specs.PlainFile.{rows};
-
-use crate::reading::{Missed, cut, cut_if, digits, kind, number, small};
-use crate::rewriting::outcome;
-use crate::tree_text::without_sign;
-use crate::word_text::place;
-use expansion_laws::{ExpandFault, PlainRecord, PlainUse, PlainUses, Tree, TreeUse, expand};
+use expansion_laws::{PlainRecord, PlainUse, PlainUses, Tree, TreeUse};
 use location_words::Word;
 use orientation::{Kind, Turn};
 use std::alloc::Global;
+use tree_texts::{
+    Missed, cut, cut_if, digits, kind, number, place, record_tree, root_said, small, without_sign,
+};
 
 /// The use `-2@3^1`: reversed, of the record 2, at the datum 3.
 fn plain_use(alloc: Global, text: &str) -> Result<PlainUse, Missed> {
@@ -38,32 +33,6 @@ fn plain_uses(alloc: Global, text: Option<&str>) -> Result<PlainUses, Missed> {
     Ok(uses)
 }
 
-/// Whether each of these uses names a record above the one with the number `own`, of so many.
-fn all_above(uses: &[PlainUse], own: usize, count: usize) -> bool
-    ensures { IsTrue result → All (λ u. (own < u.number) × (u.number ≤ count)) uses.now }
-{
-    for one in uses {
-        let number = one.number as usize;
-        if number <= own || number > count {
-            return false;
-        }
-    }
-    true
-}
-
-/// Whether each use names a record above its own.
-fn names_above(records: &[PlainRecord]) -> bool
-    ensures { IsTrue result → NamesAbove 1 (reverse (rows records.now)) }
-{
-    let count = records.len();
-    for i in 0..count {
-        if !all_above(records[i].uses.as_slice(), count - i, count) {
-            return false;
-        }
-    }
-    true
-}
-
 /// The forward use of a tree under no word.
 fn bare(alloc: Global, tree: Tree) -> Result<TreeUse, Missed> {
     Ok(TreeUse {
@@ -81,12 +50,9 @@ fn expanded(
     number: u32,
     budget: u64,
 ) -> Result<String, Missed> {
-    if number == 0 || number as usize > records.len() || !names_above(records) {
-        return Err(Missed::Unclear);
-    }
-    match expand(alloc, records, number, budget) {
-        Ok(tree) => outcome(alloc, kinds, Ok(bare(alloc, tree)?)),
-        Err(fault) => outcome(alloc, kinds, Err(fault)),
+    match record_tree(alloc, records, number, budget)? {
+        Ok(tree) => root_said(alloc, kinds, Ok(bare(alloc, tree)?)),
+        Err(fault) => root_said(alloc, kinds, Err(fault)),
     }
 }
 

@@ -2,9 +2,9 @@
 ghost use Rattle.std.specs.Prelude.{◌<◌, ◌≡◌, All, IsTrue, length};
 ghost use Rattle.graph_walks.specs.Graph.{EndsAreNodes};
 
-use crate::reading::{Missed, counted, cut, cut_if, join, said, small, yes};
 use graph_walks::{Found, Graph, has_cycle, mark_reaching, ranks, search};
 use std::alloc::Global;
+use tree_texts::{Missed, counted, cut, cut_if, join, said, small, yes};
 
 /// Adds a node with the ends of its edges.
 fn add(graph: &mut Graph, node: &str) -> Result<(), Missed> {

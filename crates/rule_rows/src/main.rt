@@ -5,21 +5,17 @@ mod desk_answers;
 mod desk_rows;
 mod expansions;
 mod graphs;
-mod reading;
 mod rewriting;
-mod tree_said;
-mod tree_text;
 mod turns;
-mod word_text;
 mod words;
 
-use reading::Missed;
 use std::alloc::{AllocError, Global};
 use std::io::{self, BufRead, BufReader};
+use tree_texts::{Missed, cut};
 
 /// What comes of a row by its first word.
 fn answer(alloc: Global, row: &str) -> Result<String, Missed> {
-    let (word, rest) = reading::cut(row, " ")?;
+    let (word, rest) = cut(row, " ")?;
     match word {
         "turn" => turns::of_turns(alloc, rest),
         "kind" => turns::of_kinds(alloc, rest),

@@ -1,11 +1,8 @@
 //! Rows of trees: whether two are one, and what a step makes of a root.
-use crate::reading::{Missed, cut, cut_if, kind, number, said, yes};
-use crate::tree_said::tree_said;
-use crate::tree_text::{Kinds, tree, turn_at};
-use crate::word_text::{fault_said, place};
-use expansion_laws::{ExpandFault, SlowRequest, TreeUse, rewrite_slow, same_tree};
-use orientation::{Kind, Rule};
+use expansion_laws::{SlowRequest, TreeUse, rewrite_slow, same_tree};
+use orientation::Rule;
 use std::alloc::Global;
+use tree_texts::{Kinds, Missed, cut, cut_if, kind, number, place, root_said, tree, turn_at, yes};
 
 /// `TREE , TREE`: whether the two trees are one, whatever their turns and words are.
 pub(crate) fn of_same(alloc: Global, row: &str) -> Result<String, Missed> {
@@ -75,20 +72,6 @@ impl Told {
     }
 }
 
-/// The new root, or why there is none.
-pub(crate) fn outcome(
-    alloc: Global,
-    kinds: &[Kind],
-    answer: Result<TreeUse, ExpandFault>,
-) -> Result<String, Missed> {
-    match answer {
-        Ok(root) => tree_said(alloc, kinds, &root),
-        Err(ExpandFault::TooBig) => said(alloc, "too big"),
-        Err(ExpandFault::Word(fault)) => fault_said(alloc, fault),
-        Err(ExpandFault::NoMemory) => Err(Missed::NoMemory),
-    }
-}
-
 /// `ROOT ; PART ; ..`, where a part is `remove SOURCE`, `replace SOURCE by TARGET`, `until KIND`, `prune` or
 /// `visits N`. There are at most 200 visits where the row has no number.
 pub(crate) fn of_rewrite(alloc: Global, row: &str) -> Result<String, Missed> {
@@ -116,5 +99,5 @@ pub(crate) fn of_rewrite(alloc: Global, row: &str) -> Result<String, Missed> {
         told.rule,
         told.visits,
     );
-    outcome(alloc, kinds.as_slice(), new)
+    root_said(alloc, kinds.as_slice(), new)
 }

@@ -1,9 +1,7 @@
 //! Rows of turns, kinds and rules.
-use crate::reading::{Missed, cut, cut_if, kind, said, yes};
-use orientation::{
-    Kind, Rule, Turn, below, compose, kind_name, kind_of_name, of_sign, reverse, sign,
-};
+use orientation::{Kind, Rule, Turn, below, compose, kind_of_name, of_sign, reverse, sign};
 use std::alloc::Global;
+use tree_texts::{Missed, cut, cut_if, kind, push_kind, said, yes};
 
 /// The turn of a text of one sign.
 fn turn(text: &str) -> Option<Turn> {
@@ -95,14 +93,6 @@ fn word_of(kind: Kind) -> &'static str {
         Kind::CS => "compsolid",
         Kind::Co => "compound",
     }
-}
-
-/// Appends the two letters of a kind.
-pub(crate) fn push_kind(text: &mut String, kind: Kind) -> Result<(), Missed> {
-    for letter in kind_name(kind) {
-        text.push(char::from(*letter))?;
-    }
-    Ok(())
 }
 
 /// The two letters of a kind, as an answer.

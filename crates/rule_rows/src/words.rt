@@ -1,8 +1,9 @@
 //! Rows of words and of their numbers.
-use crate::reading::{Missed, counted, cut, cut_if, join, said, signed, small};
-use crate::word_text::{outcome, word, word_said};
 use location_words::{Word, WordFault, WordId, Words, inverse, mul, power, product};
 use std::alloc::Global;
+use tree_texts::{
+    Missed, counted, cut, cut_if, join, outcome, said, signed, small, word, word_said,
+};
 
 /// The inverse of a word.
 fn inverse_of(w: &Word) -> Result<Word, WordFault> {

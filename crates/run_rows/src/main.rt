@@ -5,7 +5,6 @@
 mod answers;
 mod reads;
 mod rows;
-mod runs;
 mod sweeps;
 
 use rows::Rows;

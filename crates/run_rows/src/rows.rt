@@ -1,10 +1,10 @@
 //! The rows of the input, line by line, and what is said of them.
 use crate::answers::{Known, Layout, run_text, status_text};
 use crate::reads::{nothing_text, pieces_text, whole_text};
-use crate::runs::{desk_of, ran, words_of};
 use crate::sweeps::{cuts_text, fail_each_text, prefixes_text};
 use brep_desk::MemoryDesk;
 use brep_run::Outcome;
+use row_runs::{desk_of, ran, words_of};
 use row_texts::{Given, Order, Ran, Sweep, number_and_rest, numbers_of, order_of};
 use std::alloc::{AllocError, Global};
 

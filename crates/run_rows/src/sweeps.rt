@@ -1,9 +1,9 @@
 //! Many runs and readings, of which those in a row with one answer are told on one line.
 use crate::answers::{Known, Layout, run_text};
 use crate::reads::pieces_text;
-use crate::runs::{desk_of, ran, words_of};
 use brep_desk::{CommandWords, Desk};
 use brep_run::Outcome;
+use row_runs::{desk_of, ran, words_of};
 use row_texts::Texts;
 use std::alloc::{AllocError, Global};
 

@@ -42,13 +42,13 @@ fn pairs(alloc: Global, text: &str, mark: &str) -> Result<Vec<Pair>, Missed> {
 }
 
 /// The word of a text, or why it is none.
-pub(crate) fn word(alloc: Global, text: &str) -> Result<Result<Word, WordFault>, Missed> {
+pub fn word(alloc: Global, text: &str) -> Result<Result<Word, WordFault>, Missed> {
     let pairs = pairs(alloc, text, " ")?;
     Ok(Word::of(alloc, pairs.as_slice()))
 }
 
 /// The word of a place in a tree, whose pairs have dots between them.
-pub(crate) fn place(alloc: Global, text: &str) -> Result<Word, Missed> {
+pub fn place(alloc: Global, text: &str) -> Result<Word, Missed> {
     let pairs = pairs(alloc, text, ".")?;
     match Word::of(alloc, pairs.as_slice()) {
         Ok(word) => Ok(word),
@@ -57,7 +57,7 @@ pub(crate) fn place(alloc: Global, text: &str) -> Result<Word, Missed> {
 }
 
 /// The pairs of a word, with a mark between them.
-pub(crate) fn pairs_said(alloc: Global, w: &Word, mark: &str) -> Result<String, Missed> {
+pub fn pairs_said(alloc: Global, w: &Word, mark: &str) -> Result<String, Missed> {
     let mut text = String::new(alloc);
     for pair in w.pairs() {
         let (datum, power) = (pair.datum, pair.power);
@@ -68,7 +68,7 @@ pub(crate) fn pairs_said(alloc: Global, w: &Word, mark: &str) -> Result<String, 
 }
 
 /// The pairs of a word, or how many there are where there are many.
-pub(crate) fn word_said(alloc: Global, w: &Word) -> Result<String, Missed> {
+pub fn word_said(alloc: Global, w: &Word) -> Result<String, Missed> {
     let count = w.pairs().len();
     if count == 0 {
         return Ok(String::from_str(alloc, "identity")?);
@@ -80,7 +80,7 @@ pub(crate) fn word_said(alloc: Global, w: &Word) -> Result<String, Missed> {
 }
 
 /// Why a word is refused.
-pub(crate) fn fault_said(alloc: Global, fault: WordFault) -> Result<String, Missed> {
+pub fn fault_said(alloc: Global, fault: WordFault) -> Result<String, Missed> {
     match fault {
         WordFault::Power(n) => Ok(format!(in alloc; "power {n}")?),
         WordFault::Pairs(n) => Ok(format!(in alloc; "pairs {n}")?),
@@ -89,7 +89,7 @@ pub(crate) fn fault_said(alloc: Global, fault: WordFault) -> Result<String, Miss
 }
 
 /// A word, or why it is refused.
-pub(crate) fn outcome(alloc: Global, answer: Result<Word, WordFault>) -> Result<String, Missed> {
+pub fn outcome(alloc: Global, answer: Result<Word, WordFault>) -> Result<String, Missed> {
     match answer {
         Ok(w) => word_said(alloc, &w),
         Err(fault) => fault_said(alloc, fault),

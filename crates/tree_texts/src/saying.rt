@@ -1,10 +1,17 @@
 //! Trees as answers, in the form in which they stand in rows.
-use crate::reading::{Missed, join};
-use crate::turns::push_kind;
-use crate::word_text::pairs_said;
-use expansion_laws::TreeUse;
-use orientation::{Kind, Turn, sign};
+use crate::reading::{Missed, join, said};
+use crate::word_text::{fault_said, pairs_said};
+use expansion_laws::{ExpandFault, TreeUse};
+use orientation::{Kind, Turn, kind_name, sign};
 use std::alloc::Global;
+
+/// Appends the two letters of a kind.
+pub fn push_kind(text: &mut String, kind: Kind) -> Result<(), Missed> {
+    for letter in kind_name(kind) {
+        text.push(char::from(*letter))?;
+    }
+    Ok(())
+}
 
 /// The kind of an origin.
 fn kind_of(kinds: &[Kind], origin: u32) -> Kind {
@@ -35,7 +42,7 @@ fn label_said(alloc: Global, kinds: &[Kind], one: &TreeUse) -> Result<String, Mi
 
 /// A use with all that stands below it.
 #[cycle(said)]
-pub(crate) fn tree_said(alloc: Global, kinds: &[Kind], one: &TreeUse) -> Result<String, Missed> {
+pub fn tree_said(alloc: Global, kinds: &[Kind], one: &TreeUse) -> Result<String, Missed> {
     let mut text = label_said(alloc, kinds, one)?;
     if !one.tree.uses.is_empty() {
         let below = uses_said(alloc, kinds, &one.tree.uses)?;
@@ -55,4 +62,18 @@ fn uses_said(alloc: Global, kinds: &[Kind], uses: &[TreeUse]) -> Result<String, 
         join(&mut text, " ", one.as_str())?;
     }
     Ok(text)
+}
+
+/// The new root, or why there is none.
+pub fn root_said(
+    alloc: Global,
+    kinds: &[Kind],
+    answer: Result<TreeUse, ExpandFault>,
+) -> Result<String, Missed> {
+    match answer {
+        Ok(root) => tree_said(alloc, kinds, &root),
+        Err(ExpandFault::TooBig) => said(alloc, "too big"),
+        Err(ExpandFault::Word(fault)) => fault_said(alloc, fault),
+        Err(ExpandFault::NoMemory) => Err(Missed::NoMemory),
+    }
 }

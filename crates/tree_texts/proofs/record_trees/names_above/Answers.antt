@@ -1,7 +1,7 @@
 -- All records name records above them.
 use Rattle.std.proofs.Common.{arith}
-use Rattle.rule_rows.proofs.RecordLemmas.{names-told}
-use Rattle.rule_rows.proofs.expansions.names_above.Goals as goal
+use Rattle.tree_texts.proofs.RecordLemmas.{names-told}
+use Rattle.tree_texts.proofs.record_trees.names_above.Goals as goal
 
 pub returns : goal.returns
 returns c =

@@ -9,12 +9,12 @@ use std::mem;
 
 /// The kinds of the origins from 1 on, as far as they are known.
 #[derive(Drop)]
-pub(crate) struct Kinds {
+pub struct Kinds {
     known: Vec<Option<Kind>>,
 }
 
 impl Kinds {
-    pub(crate) fn new(alloc: Global) -> Kinds {
+    pub fn new(alloc: Global) -> Kinds {
         Kinds {
             known: Vec::new(alloc),
         }
@@ -48,7 +48,7 @@ impl Kinds {
     }
 
     /// All kinds; those that aren't known are compounds.
-    pub(crate) fn all(&self, alloc: Global) -> Result<Vec<Kind>, Missed> {
+    pub fn all(&self, alloc: Global) -> Result<Vec<Kind>, Missed> {
         let mut kinds = Vec::new(alloc);
         for known in &self.known {
             kinds.push(known.unwrap_or(Kind::Co))?;
@@ -66,7 +66,7 @@ struct Head {
 }
 
 /// The sign at the front of a text, and what comes after it.
-pub(crate) fn without_sign(text: &[u8]) -> (Option<Turn>, &[u8]) {
+pub fn without_sign(text: &[u8]) -> (Option<Turn>, &[u8]) {
     match text {
         [b, rest @ ..] => match of_sign(*b) {
             Some(turn) => (Some(turn), rest),
@@ -77,7 +77,7 @@ pub(crate) fn without_sign(text: &[u8]) -> (Option<Turn>, &[u8]) {
 }
 
 /// The turn that a text begins with, if it begins with a sign.
-pub(crate) fn turn_at(text: &str) -> Option<Turn> {
+pub fn turn_at(text: &str) -> Option<Turn> {
     without_sign(text.as_bytes()).0
 }
 
@@ -198,7 +198,7 @@ impl Reading {
 }
 
 /// The use of a text, whose kinds are noted.
-pub(crate) fn tree(alloc: Global, text: &str, kinds: &mut Kinds) -> Result<TreeUse, Missed> {
+pub fn tree(alloc: Global, text: &str, kinds: &mut Kinds) -> Result<TreeUse, Missed> {
     let mut reading = Reading {
         alloc,
         label: String::new(alloc),

@@ -3,8 +3,8 @@ use Rattle.std.proofs.Common.{subst, arith}
 use Rattle.std.specs.Prelude.{All}
 use Rattle.std.proofs.lemmas.List.{take_all}
 use Rattle.std.proofs.lemmas.List.Elements.{All-more}
-use Rattle.rule_rows.proofs.RecordLemmas.{IsAboveOwn}
-use Rattle.rule_rows.proofs.expansions.all_above.Goals as goal
+use Rattle.tree_texts.proofs.RecordLemmas.{IsAboveOwn}
+use Rattle.tree_texts.proofs.record_trees.all_above.Goals as goal
 
 pub loop-one-preserved : goal.loop-one-preserved
 loop-one-preserved c =

@@ -15,7 +15,7 @@ fn file_of(alloc: Global, text: &Named) -> Result<(NameText, Bytes), AllocError>
 }
 
 /// A desk that holds the texts, whose calls of these numbers fail, and which moves at most so many bytes a call, or one.
-pub(crate) fn desk_of(
+pub fn desk_of(
     alloc: Global,
     texts: &Texts,
     failing: &[u64],
@@ -35,7 +35,7 @@ fn word_of(alloc: Global, word: &str) -> Result<NameText, AllocError> {
 }
 
 /// The words of a line, between which spaces stand; `""` is the empty word.
-pub(crate) fn words_of(alloc: Global, line: &str) -> Result<CommandWords, AllocError> {
+pub fn words_of(alloc: Global, line: &str) -> Result<CommandWords, AllocError> {
     let mut words = CommandWords::new(alloc);
     for word in line.split(' ') {
         if !word.is_empty() {
@@ -60,6 +60,6 @@ fn run_counted<L: Ledger>(
 }
 
 /// Runs the command of the words over the desk.
-pub(crate) fn ran(alloc: Global, words: &CommandWords, desk: &mut MemoryDesk) -> Outcome {
+pub fn ran(alloc: Global, words: &CommandWords, desk: &mut MemoryDesk) -> Outcome {
     run_counted::<Brand>(alloc, words, desk, Blank::new(1))
 }

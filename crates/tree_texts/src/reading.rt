@@ -4,7 +4,7 @@ use std::alloc::{AllocError, AllocFailed, Global};
 
 /// Why a row has no answer: it can't be understood, or memory is wanting.
 #[derive(Drop)]
-pub(crate) enum Missed {
+pub enum Missed {
     Unclear,
     NoMemory,
 }
@@ -22,7 +22,7 @@ impl<T: Drop> From<AllocFailed<T>> for Missed {
 }
 
 /// What stands before and after the first such mark.
-pub(crate) fn cut<'a>(text: &'a str, mark: &str) -> Result<(&'a str, &'a str), Missed> {
+pub fn cut<'a>(text: &'a str, mark: &str) -> Result<(&'a str, &'a str), Missed> {
     match text.split_once(mark) {
         Some(parts) => Ok(parts),
         None => Err(Missed::Unclear),
@@ -30,7 +30,7 @@ pub(crate) fn cut<'a>(text: &'a str, mark: &str) -> Result<(&'a str, &'a str), M
 }
 
 /// What stands before the first such mark, and what after it, if there is one.
-pub(crate) fn cut_if<'a>(text: &'a str, mark: &str) -> (&'a str, Option<&'a str>) {
+pub fn cut_if<'a>(text: &'a str, mark: &str) -> (&'a str, Option<&'a str>) {
     match text.split_once(mark) {
         Some((front, back)) => (front, Some(back)),
         None => (text, None),
@@ -38,7 +38,7 @@ pub(crate) fn cut_if<'a>(text: &'a str, mark: &str) -> (&'a str, Option<&'a str>
 }
 
 /// A number.
-pub(crate) fn number(text: &str) -> Result<u64, Missed> {
+pub fn number(text: &str) -> Result<u64, Missed> {
     match brep_tokens::number(text.as_bytes()) {
         Some(n) => Ok(n),
         None => Err(Missed::Unclear),
@@ -46,7 +46,7 @@ pub(crate) fn number(text: &str) -> Result<u64, Missed> {
 }
 
 /// A number of 32 bits, by its digits.
-pub(crate) fn digits(text: &[u8]) -> Result<u32, Missed> {
+pub fn digits(text: &[u8]) -> Result<u32, Missed> {
     let Some(number) = brep_tokens::number(text) else {
         return Err(Missed::Unclear);
     };
@@ -57,12 +57,12 @@ pub(crate) fn digits(text: &[u8]) -> Result<u32, Missed> {
 }
 
 /// A number of 32 bits.
-pub(crate) fn small(text: &str) -> Result<u32, Missed> {
+pub fn small(text: &str) -> Result<u32, Missed> {
     digits(text.as_bytes())
 }
 
 /// A number, or one after `-`.
-pub(crate) fn signed(text: &str) -> Result<i64, Missed> {
+pub fn signed(text: &str) -> Result<i64, Missed> {
     match brep_tokens::power(text.as_bytes()) {
         Some(p) => Ok(p),
         None => Err(Missed::Unclear),
@@ -70,7 +70,7 @@ pub(crate) fn signed(text: &str) -> Result<i64, Missed> {
 }
 
 /// The kind of a name of two letters.
-pub(crate) fn kind(name: &[u8]) -> Result<Kind, Missed> {
+pub fn kind(name: &[u8]) -> Result<Kind, Missed> {
     match kind_of_name(name) {
         Some(kind) => Ok(kind),
         None => Err(Missed::Unclear),
@@ -78,17 +78,17 @@ pub(crate) fn kind(name: &[u8]) -> Result<Kind, Missed> {
 }
 
 /// A text as an answer.
-pub(crate) fn said(alloc: Global, text: &str) -> Result<String, Missed> {
+pub fn said(alloc: Global, text: &str) -> Result<String, Missed> {
     Ok(String::from_str(alloc, text)?)
 }
 
 /// A number as an answer.
-pub(crate) fn counted(alloc: Global, n: u64) -> Result<String, Missed> {
+pub fn counted(alloc: Global, n: u64) -> Result<String, Missed> {
     Ok(format!(in alloc; "{n}")?)
 }
 
 /// Yes or no.
-pub(crate) fn yes(alloc: Global, holds: bool) -> Result<String, Missed> {
+pub fn yes(alloc: Global, holds: bool) -> Result<String, Missed> {
     if holds {
         return said(alloc, "yes");
     }
@@ -96,7 +96,7 @@ pub(crate) fn yes(alloc: Global, holds: bool) -> Result<String, Missed> {
 }
 
 /// Appends an answer to those before it.
-pub(crate) fn join(answers: &mut String, mark: &str, answer: &str) -> Result<(), AllocError> {
+pub fn join(answers: &mut String, mark: &str, answer: &str) -> Result<(), AllocError> {
     if !answers.is_empty() {
         answers.push_str(mark)?;
     }

@@ -2,8 +2,8 @@
 use Rattle.std.proofs.Common.{◌<◌, ◌-◌, ℕ, length}
 use Rattle.std.specs.Prelude.{All, slice_index_or}
 use Rattle.expansion_laws.specs.declared.records.PlainRecord.{PlainRecord}
-use Rattle.rule_rows.proofs.RecordLemmas.{IsAboveOwn}
-use Rattle.rule_rows.proofs.expansions.names_above.Given as goal
+use Rattle.tree_texts.proofs.RecordLemmas.{IsAboveOwn}
+use Rattle.tree_texts.proofs.record_trees.names_above.Given as goal
 
 abbrev pub invariant-loop-i : goal.invariant-loop-i
 invariant-loop-i l =

@@ -1,4 +1,4 @@
-use Rattle.run_rows.proofs.runs.ran.Given as goal
+use Rattle.row_runs.proofs.runs.ran.Given as goal
 
 abbrev pub ghosts-run_counted : goal.ghosts-run_counted
 ghosts-run_counted a = record { name = a.blank.name; parts = a.blank.parts }
